@@ -1,0 +1,4 @@
+pub mod Group
+pub mod Peel
+pub mod Rest
+pub mod Theorem

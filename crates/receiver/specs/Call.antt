@@ -1,0 +1,195 @@
+-- The calls: from the window value, the datagram and the lent store to answer, next window value and next store.
+use mathlib.Core.Path.{_≡_, refl, ap₂}
+use mathlib.Core.Bool.{Bool, true, false, cond, not, _&&_, _||_, false≢true}
+use mathlib.Core.List.{List, [], _∷_, _++_, map}
+use Prim.Native.Nat.{ℕ, _+_, _*_}
+use lib.Dec.{eqb, ltb}
+use lib.ListN.{length, drop}
+use borrow.Author.Tests.{eqb-true}
+use Rattle.answer.specs.declared.Answer.{Answer}
+use Rattle.answer.specs.declared.Answer.the-variants.{Done, Refused}
+use Rattle.answer.specs.First.{first}
+use Rattle.sequence.specs.Lists.{upTo, any}
+use Rattle.rtp.specs.Rtp.{rtpHeaderSize, sequenceNumber, timestamp}
+use Rattle.rtp.specs.Fec.{parityHeaderSize, column, row, snbase}
+use Rattle.rtp.specs.Faults.{mediaTests, parityTests, noRow}
+use Rattle.window.specs.declared.Window.{Window}
+use Rattle.window.specs.Limits.{setUpTests}
+use Rattle.window.specs.Store.{Store, shortStore, payloadAt, timestampAt, parityAt, streamAt, snbaseAt, recoveryAt, zeroed}
+use Rattle.window.specs.Group.{position, group, inside, lost, missing}
+use Rattle.window.specs.Order.{inUse, disorder}
+use Rattle.receiver.specs.Datagram.{mediaPacket, Outer, parityPacket}
+use Rattle.receiver.specs.State.{State}
+use Rattle.receiver.specs.Settle.{settle}
+use Rattle.receiver.specs.Accept.{mediaPayload, recoveryOf, acceptMedia, acceptParity}
+
+-- what a call gives back, and leaves in the lent store
+pub record Outcome : Type 0 where
+  pub answer : Answer
+  pub window : Window
+  pub store : Store
+
+-- what reading out or writing parity gives back, and leaves in the lent output
+pub record Written : Type 0 where
+  pub answer : Answer
+  pub window : Window
+  pub out : List ℕ
+
+-- the same list
+abbrev pub same : List ℕ → List ℕ → Bool
+same [] [] = true
+same [] (b ∷ t) = false
+same (a ∷ s) [] = false
+same (a ∷ s) (b ∷ t) = eqb a b && same s t
+
+pub both : (a b : Bool) → (a && b) ≡ true → (a ≡ true) × (b ≡ true)
+both true b e = (refl, e)
+both false b e = absurd (false≢true e)
+
+pub same-eq : (s t : List ℕ) → same s t ≡ true → s ≡ t
+same-eq [] [] e = refl
+same-eq [] (b ∷ t) e = absurd (false≢true e)
+same-eq (a ∷ s) [] e = absurd (false≢true e)
+same-eq (a ∷ s) (b ∷ t) e = let h = both (eqb a b) (same s t) e in ap₂ _∷_ (eqb-true a b (h .0)) (same-eq s t (h .1))
+
+-- ---- opening (01, "Setting up a window")
+
+abbrev pub noWindow : Window
+noWindow = record { base = 0; ssrc = 0; l = 0; d = 0; p = 0; n = 0; k = 0; present = 0; «in_use» = 0 }
+
+-- all that the window needs is set to zero: every position missing, every record free
+abbrev pub cleared : Window → Store → Store
+cleared w s =
+    record {
+      media = zeroed (w .n * w .p) (s .media);
+      timestamps = zeroed (w .n) (s .timestamps);
+      marks = zeroed (w .n) (s .marks);
+      parity = zeroed (w .k * w .p) (s .parity);
+      streams = zeroed (w .k) (s .streams);
+      snbases = zeroed (w .k) (s .snbases);
+      recoveries = zeroed (w .k) (s .recoveries);
+      uses = zeroed (w .k) (s .uses);
+    }
+
+-- the window value that a card asks for: the counts are 0
+abbrev pub asked : (base ssrc l d p n k : ℕ) → Window
+asked base ssrc l d p n k = record { base = base; ssrc = ssrc; l = l; d = d; p = p; n = n; k = k; present = 0; «in_use» = 0 }
+
+-- refusals 1 to 4
+abbrev pub openTests : Window → Store → List (ℕ × Bool)
+openTests w s = setUpTests w ++ ((4, shortStore w s) ∷ [])
+
+unfoldable pub opened : Window → Store → Outcome
+opened w s =
+    cond (eqb (first (openTests w s)) 0) (record { answer = Done 0; window = w; store = cleared w s })
+    (record { answer = Refused (first (openTests w s)); window = noWindow; store = s })
+
+-- ---- offers (01, "Taking a packet in")
+
+-- refusals 1 to 5: what every later call meets, with the output that it was lent and the bytes that it has to write
+abbrev pub standingTests : Window → Store → (room need : ℕ) → List (ℕ × Bool)
+standingTests w s room need = setUpTests w ++ ((4, shortStore w s || ltb room need) ∷ (5, disorder w s) ∷ [])
+
+-- 13 to 15 for a media datagram: its number lies outside; it is held, the same; it is held, with a difference
+abbrev pub mediaPlaceTests : Window → List ℕ → Store → List (ℕ × Bool)
+mediaPlaceTests w g s =
+    (13, not (ltb (position w (sequenceNumber g)) (w .n)))
+    ∷ (14, not (lost s (position w (sequenceNumber g))) && (eqb (timestampAt s (position w (sequenceNumber g))) (timestamp g) && same (payloadAt w s (position w (sequenceNumber g))) (mediaPayload g)))
+    ∷ (15, not (lost s (position w (sequenceNumber g))))
+    ∷ []
+
+abbrev pub mediaOfferTests : Window → List ℕ → Store → List (ℕ × Bool)
+mediaOfferTests w g s = standingTests w s 0 0 ++ mediaTests (w .p) g ++ mediaPlaceTests w g s
+
+-- a record in use holds this group, and the same recovery
+abbrev pub holds : Store → (stream start : ℕ) → ℕ → Bool
+holds s stream start r = inUse s r && (eqb (streamAt s r) stream && eqb (snbaseAt s r) start)
+
+abbrev pub holdsSame : Window → Store → (stream : ℕ) → List ℕ → ℕ → Bool
+holdsSame w s stream g r = holds s stream (snbase g) r && (eqb (recoveryAt s r) (recoveryOf g .stamps) && same (parityAt w s r) (recoveryOf g .payload))
+
+-- 13 to 16 for a parity datagram: a member lies outside; it is in hand, the same; it is in hand, with a difference;
+-- two or more are missing and every record is in use
+abbrev pub parityPlaceTests : Window → (stream : ℕ) → List ℕ → Store → List (ℕ × Bool)
+parityPlaceTests w stream g s =
+    (13, not (inside w stream (snbase g)))
+    ∷ (14, any (holdsSame w s stream g) (upTo (w .k)))
+    ∷ (15, any (holds s stream (snbase g)) (upTo (w .k)))
+    ∷ (16, ltb 1 (length (missing s (group w stream (snbase g)))) && not (ltb (w .«in_use») (w .k)))
+    ∷ []
+
+abbrev pub parityOfferTests : Window → (stream : ℕ) → List ℕ → Store → List (ℕ × Bool)
+parityOfferTests w stream g s = standingTests w s 0 0 ++ parityTests stream (w .l) (w .d) (w .p) g ++ parityPlaceTests w stream g s
+
+abbrev pub refused : ℕ → Window → Store → Outcome
+refused number w s = record { answer = Refused number; window = w; store = s }
+
+-- an accepted packet is settled; the count is of packets rebuilt
+abbrev pub settled : State → Outcome
+settled x = record { answer = Done (settle x .rebuilt); window = settle x .window; store = settle x .store }
+
+abbrev pub start : Window → Store → State
+start w s = record { window = w; store = s; rebuilt = 0 }
+
+unfoldable pub offeredMedia : Window → List ℕ → Store → Outcome
+offeredMedia w g s =
+    cond (eqb (first (mediaOfferTests w g s)) 0) (settled (acceptMedia g (start w s))) (refused (first (mediaOfferTests w g s)) w s)
+
+unfoldable pub offeredParity : (stream : ℕ) → Window → List ℕ → Store → Outcome
+offeredParity stream w g s =
+    cond (eqb (first (parityOfferTests w stream g s)) 0) (settled (acceptParity stream g (start w s)))
+    (refused (first (parityOfferTests w stream g s)) w s)
+
+abbrev pub offeredColumn : Window → List ℕ → Store → Outcome
+offeredColumn = offeredParity column
+
+abbrev pub offeredRow : Window → List ℕ → Store → Outcome
+offeredRow = offeredParity row
+
+-- ---- reading out and writing parity
+
+-- a datagram at the front of an output, the rest as it was
+abbrev pub over : List ℕ → List ℕ → List ℕ
+over datagram out = datagram ++ drop (length datagram) out
+
+-- 13 and 17: the number lies outside; the packet is missing
+abbrev pub readTests : Window → (number : ℕ) → Store → (out : List ℕ) → List (ℕ × Bool)
+readTests w number s out =
+    standingTests w s (length out) (rtpHeaderSize + w .p)
+    ++ ((13, not (ltb (position w number) (w .n))) ∷ (17, lost s (position w number)) ∷ [])
+
+unfoldable pub readOut : Window → (number : ℕ) → Store → (out : List ℕ) → Written
+readOut w number s out =
+    cond (eqb (first (readTests w number s out)) 0)
+    (record {
+      answer = Done (rtpHeaderSize + w .p);
+      window = w;
+      out = over (mediaPacket number (timestampAt s (position w number)) (w .ssrc) (payloadAt w s (position w number))) out;
+    })
+    (record { answer = Refused (first (readTests w number s out)); window = w; out = out })
+
+-- 12, 13 and 17: a row where rows are not permitted; a member lies outside; a member is missing
+abbrev pub writeTests : Window → (stream start : ℕ) → Store → (out : List ℕ) → List (ℕ × Bool)
+writeTests w stream start s out =
+    standingTests w s (length out) (parityHeaderSize + w .p)
+    ++ ((12, noRow stream (w .l))
+    ∷ (13, not (inside w stream start))
+    ∷ (17, any (lost s) (group w stream start))
+    ∷ [])
+
+-- the parity packet of a group that is present
+abbrev pub parityOf : Window → Outer → (stream start : ℕ) → Store → List ℕ
+parityOf w o stream start s =
+    parityPacket o stream (w .l) (w .d) (w .p) start (map (timestampAt s) (group w stream start)) (map (payloadAt w s) (group w stream start))
+
+unfoldable pub wroteParity : (stream : ℕ) → Window → (start : ℕ) → Outer → Store → (out : List ℕ) → Written
+wroteParity stream w start o s out =
+    cond (eqb (first (writeTests w stream start s out)) 0)
+    (record { answer = Done (parityHeaderSize + w .p); window = w; out = over (parityOf w o stream start s) out })
+    (record { answer = Refused (first (writeTests w stream start s out)); window = w; out = out })
+
+abbrev pub wroteColumn : Window → (start : ℕ) → Outer → Store → (out : List ℕ) → Written
+wroteColumn = wroteParity column
+
+abbrev pub wroteRow : Window → (start : ℕ) → Outer → Store → (out : List ℕ) → Written
+wroteRow = wroteParity row

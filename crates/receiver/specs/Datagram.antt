@@ -1,0 +1,29 @@
+-- Whole datagrams, and the exclusive-or over a group (01, "Bytes on the wire").
+use mathlib.Core.List.{List, [], _∷_, _++_, map}
+use Prim.Native.Nat.{ℕ}
+use lib.ListN.{replicate}
+use Rattle.xor.specs.Xor.{zipXor, xorAll}
+use Rattle.rtp.specs.Rtp.{rtpHeader, mediaType, parityType}
+use Rattle.rtp.specs.Fec.{fecHeader}
+
+-- the exclusive-or of payloads of p bytes, byte by byte
+abbrev pub xorPayloads : (p : ℕ) → List (List ℕ) → List ℕ
+xorPayloads p [] = replicate p 0
+xorPayloads p (x ∷ l) = zipXor x (xorPayloads p l)
+
+-- a media packet
+abbrev pub mediaPacket : (number stamp source : ℕ) (payload : List ℕ) → List ℕ
+mediaPacket number stamp source payload = rtpHeader mediaType number stamp source ++ payload
+
+-- what a parity packet takes from the caller
+pub record Outer : Type 0 where
+  pub sequence : ℕ
+  pub timestamp : ℕ
+  pub ssrc : ℕ
+
+-- the parity packet of the group of a stream that starts at a number, where the members' timestamps and payloads are given
+abbrev pub parityPacket : Outer → (stream l d p start : ℕ) (stamps : List ℕ) (payloads : List (List ℕ)) → List ℕ
+parityPacket o stream l d p start stamps payloads =
+    rtpHeader parityType (o .sequence) (o .timestamp) (o .ssrc)
+    ++ fecHeader stream l d p start (xorAll stamps)
+    ++ xorPayloads p payloads

@@ -1,0 +1,1 @@
+// The calls of a receiver card over a window value and a lent store.

@@ -1,0 +1,4 @@
+pub mod Bytes
+pub mod Rtp
+pub mod Fec
+pub mod Faults

@@ -1,0 +1,61 @@
+-- Sequence numbers of w bits, which wrap: 16 for RTP.
+use mathlib.Core.Path.{_≡_, refl, sym, ap, _∙_}
+use mathlib.Core.List.{List, map}
+use Prim.Native.Nat.{ℕ, suc, _+_, _*_, _-_, _%_, _^_, _<_, _≤_}
+use native.Mathlib.Nat.{mod-lt, mod-eq-of-lt, add-mod-right, mod-add-mod, add-mod-mod}
+use native.Mathlib.Omega.{arith}
+use lib.Pow.{pow-pos}
+use Rattle.sequence.specs.Lists.{upTo}
+
+-- how far a number lies ahead of a base, counted with wrap: its position in a window that starts at the base (01, "Setting up a window")
+abbrev pub ahead : (w base number : ℕ) → ℕ
+ahead w base number = (number + (2 ^ w - base)) % 2 ^ w
+
+-- the number at a position (01, "Setting up a window")
+abbrev pub numberAt : (w base i : ℕ) → ℕ
+numberAt w base i = (base + i) % 2 ^ w
+
+-- the j-th member of the group that starts at SNBase and goes on in steps of Offset (01, "Bytes on the wire")
+abbrev pub member : (w snbase offset j : ℕ) → ℕ
+member w snbase offset j = (snbase + j * offset) % 2 ^ w
+
+-- all members of a group, in order
+abbrev pub members : (w snbase offset na : ℕ) → List ℕ
+members w snbase offset na = map (member w snbase offset) (upTo na)
+
+-- ---- the wrap facts, once over the width
+module _ (w base : ℕ) (h : base ≤ 2 ^ w) where
+  -- the position of the number at a position
+  pub ahead-numberAt : (i : ℕ) → i < 2 ^ w → ahead w base (numberAt w base i) ≡ i
+  ahead-numberAt i l =
+      let e : base + i + (2 ^ w - base) ≡ i + 2 ^ w = omega arith in
+      rw (mod-add-mod, e, add-mod-right) (mod-eq-of-lt l)
+
+  -- the number at the position of a number
+  pub numberAt-ahead : (number : ℕ) → number < 2 ^ w → numberAt w base (ahead w base number) ≡ number
+  numberAt-ahead number l =
+      let e : base + (number + (2 ^ w - base)) ≡ number + 2 ^ w = omega arith in
+      rw (add-mod-mod, e, add-mod-right) (mod-eq-of-lt l)
+
+  -- two numbers at one position are one number
+  pub ahead-injective : (a b : ℕ) → a < 2 ^ w → b < 2 ^ w → ahead w base a ≡ ahead w base b → a ≡ b
+  ahead-injective a b la lb e = sym (numberAt-ahead a la) ∙ ap (numberAt w base) e ∙ numberAt-ahead b lb
+
+  -- positions of a group go on from SNBase's in steps of Offset, with wrap
+  pub ahead-member : (snbase offset j : ℕ) → ahead w base (member w snbase offset j) ≡ (ahead w base snbase + j * offset) % 2 ^ w
+  ahead-member snbase offset j =
+      let e : snbase + j * offset + (2 ^ w - base) ≡ snbase + (2 ^ w - base) + j * offset = omega arith in
+      rw (mod-add-mod, mod-add-mod, e)
+
+  -- and without wrap as long as they stay below the width
+  pub ahead-plain : (snbase offset j : ℕ) → ahead w base snbase + j * offset < 2 ^ w → ahead w base (member w snbase offset j) ≡ ahead w base snbase + j * offset
+  ahead-plain snbase offset j l = ahead-member snbase offset j ∙ mod-eq-of-lt l
+
+pub ahead-lt : (w base number : ℕ) → ahead w base number < 2 ^ w
+ahead-lt w base number = mod-lt _ (pow-pos w)
+
+-- the next member, by one more wrapping add
+pub member-suc : (w snbase offset j : ℕ) → member w snbase offset (suc j) ≡ (member w snbase offset j + offset) % 2 ^ w
+member-suc w snbase offset j =
+    let e : snbase + suc j * offset ≡ snbase + j * offset + offset = omega arith in
+    rw (mod-add-mod, e)

@@ -1,0 +1,4 @@
+pub mod Limits
+pub mod Store
+pub mod Group
+pub mod Order
