@@ -1,15 +1,10 @@
--- Whole datagrams, and the exclusive-or over a group (01, "Bytes on the wire").
-use mathlib.Core.List.{List, [], _∷_, _++_, map}
+-- Whole datagrams (01, "Bytes on the wire").
+use mathlib.Core.List.{List, _++_}
 use Prim.Native.Nat.{ℕ}
-use lib.ListN.{replicate}
-use Rattle.xor.specs.Xor.{zipXor, xorAll}
+pub use Rattle.xor.specs.Xor.{xorPayloads}
+use Rattle.xor.specs.Xor.{xorAll}
 use Rattle.rtp.specs.Rtp.{rtpHeader, mediaType, parityType}
 use Rattle.rtp.specs.Fec.{fecHeader}
-
--- the exclusive-or of payloads of p bytes, byte by byte
-abbrev pub xorPayloads : (p : ℕ) → List (List ℕ) → List ℕ
-xorPayloads p [] = replicate p 0
-xorPayloads p (x ∷ l) = zipXor x (xorPayloads p l)
 
 -- a media packet
 abbrev pub mediaPacket : (number stamp source : ℕ) (payload : List ℕ) → List ℕ

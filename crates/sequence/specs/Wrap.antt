@@ -1,11 +1,14 @@
 -- Sequence numbers of w bits, which wrap: 16 for RTP.
 use mathlib.Core.Path.{_≡_, refl, sym, ap, _∙_}
-use mathlib.Core.List.{List, map}
+use mathlib.Core.Bool.{Bool, true, false}
+use mathlib.Core.List.{List, map, map-map}
 use Prim.Native.Nat.{ℕ, suc, _+_, _*_, _-_, _%_, _^_, _<_, _≤_}
-use native.Mathlib.Nat.{mod-lt, mod-eq-of-lt, add-mod-right, mod-add-mod, add-mod-mod}
+use native.Mathlib.Nat.{mod-lt, mod-eq-of-lt, add-mod-right, mod-add-mod, add-mod-mod, mul-le-mul-right}
 use native.Mathlib.Omega.{arith}
+use lib.Dec.{ltb}
 use lib.Pow.{pow-pos}
-use Rattle.sequence.specs.Lists.{upTo}
+use borrow.Author.Tests.{lt-ltb, le-ltb, ltb-true, ltb-false}
+use Rattle.sequence.specs.Lists.{upTo, all, all-map, map-same, true-all, not-all}
 
 -- how far a number lies ahead of a base, counted with wrap: its position in a window that starts at the base (01, "Setting up a window")
 abbrev pub ahead : (w base number : ℕ) → ℕ
@@ -59,3 +62,35 @@ pub member-suc : (w snbase offset j : ℕ) → member w snbase offset (suc j) �
 member-suc w snbase offset j =
     let e : snbase + suc j * offset ≡ snbase + j * offset + offset = omega arith in
     rw (mod-add-mod, e)
+
+-- ---- a group that does not wrap
+module _ (w base : ℕ) (h : base ≤ 2 ^ w) (snbase offset na : ℕ) where
+  -- its positions are plain sums
+  pub ahead-members : ((j : ℕ) → j < na → ahead w base snbase + j * offset < 2 ^ w) → map (ahead w base) (members w snbase offset na) ≡ map (λ j. ahead w base snbase + j * offset) (upTo na)
+  ahead-members l =
+      map-map (ahead w base) (member w snbase offset) (upTo na)
+      ∙ map-same (λ j. ahead w base (member w snbase offset j)) (λ j. ahead w base snbase + j * offset) na (λ j i. ahead-plain w base h snbase offset j (l j i))
+
+  -- it lies below n where the plain sum for its last member does
+  pub below-last : (n : ℕ) → 0 < na → n + (na - 1) * offset ≤ 2 ^ w → all (λ i. ltb i n) (map (ahead w base) (members w snbase offset na)) ≡ ltb (ahead w base snbase + (na - 1) * offset) n
+  below-last n pos room =
+      all-map (λ i. ltb i n) (ahead w base) (members w snbase offset na)
+      ∙ all-map (λ i. ltb (ahead w base i) n) (member w snbase offset) (upTo na)
+      ∙ go (ltb (ahead w base snbase + (na - 1) * offset) n) refl
+    where
+    inside : ℕ → Bool
+    inside j = ltb (ahead w base (member w snbase offset j)) n
+
+    at : (j : ℕ) → ahead w base snbase + j * offset < 2 ^ w → inside j ≡ ltb (ahead w base snbase + j * offset) n
+    at j l = ap (λ (i : ℕ). ltb i n) (ahead-plain w base h snbase offset j l)
+
+    outside : (b : Bool) → ltb (ahead w base snbase) n ≡ b → n ≤ ahead w base snbase + (na - 1) * offset → all inside (upTo na) ≡ false
+    outside true e f = not-all inside na (na - 1) (omega arith) (at (na - 1) (let q = ltb-true (ahead w base snbase) n e in omega arith) ∙ le-ltb (ahead w base snbase + (na - 1) * offset) n f)
+    outside false e f =
+        not-all inside na 0 pos (at 0 (let q = ahead-lt w base snbase in omega arith) ∙ le-ltb (ahead w base snbase + 0 * offset) n (let q = ltb-false (ahead w base snbase) n e in omega arith))
+
+    go : (b : Bool) → ltb (ahead w base snbase + (na - 1) * offset) n ≡ b → all inside (upTo na) ≡ b
+    go true e =
+        true-all inside na
+        (λ j l. let m : j * offset ≤ (na - 1) * offset = mul-le-mul-right offset (omega arith) in let q = ltb-true (ahead w base snbase + (na - 1) * offset) n e in at j (omega arith) ∙ lt-ltb (ahead w base snbase + j * offset) n (omega arith))
+    go false e = outside (ltb (ahead w base snbase) n) refl (ltb-false (ahead w base snbase + (na - 1) * offset) n e)

@@ -1,4 +1,4 @@
--- A turn of a loop that writes a part of a slice byte by byte, and of one that xors parts of another into it. Assumes nothing.
+-- A turn of a loop that writes a part of a slice byte by byte, and of one that xorParts parts of another into it. Assumes nothing.
 use mathlib.Core.Path.{_≡_, refl, sym, ap, _∙_}
 use mathlib.Core.List.{List, [], _∷_, _++_}
 use Prim.Native.Nat.{ℕ, suc, _+_, _<_, _≤_}
@@ -7,7 +7,7 @@ use native.Mathlib.Omega.{arith}
 use lib.ListN.{length, getD, set, take, drop, length-drop}
 use lib.Seq.{paste, paste-suc, getD-drop, getD-at, drop-cons, length-paste-head}
 use lib.Bits.{bitXor}
-use Rattle.xor.specs.Xor.{zipXor, xorAt, getD-zip, le-zip, paste-xor}
+use Rattle.xor.specs.Xor.{zipXor, xorAt, xorParts, getD-zip, le-zip, paste-xor}
 
 -- the store of the next element takes a paste of j elements to one of j + 1
 pub turn : (d : List ℕ) (at : ℕ) (z : List ℕ) (j v : ℕ) → at + j < length d → j < length z → v ≡ getD z j 0
@@ -35,11 +35,6 @@ abbrev pub bytes : List ℕ → List ℕ → ℕ → ℕ → ℕ
 bytes s [] j y = y
 bytes s (a ∷ fs) j y = bytes s fs j (bitXor y (getD s (a + j) 0))
 
--- d, with n elements of each part xored in from at
-abbrev pub xors : List ℕ → List ℕ → ℕ → ℕ → List ℕ → List ℕ
-xors s [] at n d = d
-xors s (a ∷ fs) at n d = xors s fs at n (xorAt d at (drop a s) n)
-
 -- each part has n elements
 abbrev pub Fit : List ℕ → ℕ → List ℕ → Type 0
 Fit s n [] = 0 ≤ n
@@ -57,16 +52,16 @@ module _ (s : List ℕ) (n : ℕ) where
       getD-parts fs (zipXor z (drop a s)) j (f .1) (le-zip n z (drop a s) h k) i
       ∙ ap (bytes s fs j) (getD-zip z (drop a s) j (omega arith) (omega arith) ∙ rw (getD-drop a s j 0))
 
-  xors-paste : (d : List ℕ) (at : ℕ) (fs z : List ℕ) → at + n ≤ length d → Fit s n fs → n ≤ length z → xors s fs at n (paste d at z n) ≡ paste d at (parts s fs z) n
-  xors-paste d at [] z hd f h = refl
-  xors-paste d at (a ∷ fs) z hd f h =
+  parts-paste : (d : List ℕ) (at : ℕ) (fs z : List ℕ) → at + n ≤ length d → Fit s n fs → n ≤ length z → xorParts s fs at n (paste d at z n) ≡ paste d at (parts s fs z) n
+  parts-paste d at [] z hd f h = refl
+  parts-paste d at (a ∷ fs) z hd f h =
       let k = le-drop a n s (f .0) in
-      ap (xors s fs at n) (paste-xor d at z (drop a s) n hd h) ∙ xors-paste d at fs (zipXor z (drop a s)) hd (f .1) (le-zip n z (drop a s) h k)
+      ap (xorParts s fs at n) (paste-xor d at z (drop a s) n hd h) ∙ parts-paste d at fs (zipXor z (drop a s)) hd (f .1) (le-zip n z (drop a s) h k)
 
   module _ (d : List ℕ) (at : ℕ) (hd : at + n ≤ length d) where
     -- xoring the parts in one after another is one paste
-    pub xors-once : (a : ℕ) (fs : List ℕ) → Fit s n (a ∷ fs) → paste d at (parts s (a ∷ fs) (drop at d)) n ≡ xors s (a ∷ fs) at n d
-    xors-once a fs f = sym (xors-paste d at fs (zipXor (drop at d) (drop a s)) hd (f .1) (le-zip n (drop at d) (drop a s) (le-drop at n d hd) (le-drop a n s (f .0))))
+    pub parts-once : (a : ℕ) (fs : List ℕ) → Fit s n (a ∷ fs) → paste d at (parts s (a ∷ fs) (drop at d)) n ≡ xorParts s (a ∷ fs) at n d
+    parts-once a fs f = sym (parts-paste d at fs (zipXor (drop at d) (drop a s)) hd (f .1) (le-zip n (drop at d) (drop a s) (le-drop at n d hd) (le-drop a n s (f .0))))
 
     pub turn-xor : (fs : List ℕ) (j : ℕ) → Fit s n fs → j < n
         → set (paste d at (parts s fs (drop at d)) j) (at + j) (bytes s fs j (getD (paste d at (parts s fs (drop at d)) j) (at + j) 0))

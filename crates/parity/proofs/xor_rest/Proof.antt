@@ -1,0 +1,69 @@
+-- `parity::xor_rest` meets its contract: one row a turn. Assumes nothing.
+use mathlib.Core.Path.{_≡_, refl, sym, ap, _∙_}
+use Prim.Native.Nat.{ℕ, _≤_, _<_, _-_, _+_, _*_}
+use native.Mathlib.Omega.{arith}
+use lib.ListN.{length, getD, take, drop, length-take, drop-of-length-le}
+use borrow.Author.Needs.{needs}
+use Rattle.xor.specs.Xor.{xorParts}
+use Rattle.parity.specs.Rows.{places, Rows}
+use Rattle.parity.proofs.Turns.{rest-row}
+use Rattle.parity.proofs.xor_rest.Statement.{statement}
+use Rattle.parity.proofs.xor_rest.Tie as tie
+
+abbrev Inv-loop : tie.InvT-loop
+Inv-loop sum₀ at media rows from n p i₀ sum i = (i ≤ n) × (sum ≡ xorParts media (places p (drop from (take i rows))) at p sum₀) × (length sum ≡ length sum₀) × (from ≤ i)
+
+abbrev μ-loop : tie.MeasureT-loop
+μ-loop sum₀ at media rows from n p i₀ sum i = n - i
+
+loop-holds : tie.Need-loop-holds Inv-loop μ-loop
+loop-holds c = (omega arith, rw (drop-of-length-le (take (c .before .before .before .args .from) (c .before .before .before .args .rows .now)) {i = c .before .before .before .args .from} (simp length-take (omega arith))), refl, omega arith)
+
+mul-row : tie.Need-mul-row Inv-loop μ-loop
+mul-row c = search needs
+
+shared-slice-read-row : tie.Need-shared-slice-read-row Inv-loop μ-loop
+shared-slice-read-row c = search needs
+
+mul-xor-at : tie.Need-mul-xor-at Inv-loop μ-loop
+mul-xor-at c = omega (arith, c .before .before .before .before .before .before .before .pre .2 .ends (c .before .before .before .loop .i) (omega arith))
+
+xor-at-requires : tie.Need-xor-at-requires Inv-loop μ-loop
+xor-at-requires c κs = (omega arith, c .before .before .before .before .before .before .before .pre .2 .ends (c .before .before .before .loop .i) (omega arith))
+
+add-i : tie.Need-add-i Inv-loop μ-loop
+add-i c = search needs
+
+loop-less : tie.Need-loop-less Inv-loop μ-loop
+loop-less c = search needs
+
+loop-again : tie.Need-loop-again Inv-loop μ-loop
+loop-again c = (
+      omega arith,
+      rw (c .before .before .xor-at .ensures, c .before .before .before .before .before .before .loop .inv .1) (rest-row (c .before .before .before .before .before .before .before .before .before .before .args .media .now) (c .before .before .before .before .before .before .before .before .before .before .args .rows .now) (c .before .before .before .before .before .before .before .before .before .before .args .at) (c .before .before .before .before .before .before .before .before .before .before .args .p) (c .before .before .before .before .before .before .before .before .before .before .args .sum .now) (c .before .before .before .before .before .before .before .before .before .before .args .from) (c .before .before .before .before .before .before .loop .i) (omega arith) (omega (arith, c .before .before .before .before .before .before .before .before .before .before .pre .2 .long))),
+      omega (arith, c .before .before .xor-at .kept),
+      omega arith,
+    )
+
+same-length : tie.Need-same-length Inv-loop μ-loop
+same-length c = search needs
+
+returns : tie.Need-returns Inv-loop μ-loop
+returns c = let e : c .before .loop .i ≡ c .before .before .before .before .before .args .n = omega arith in c .before .loop .inv .1 ∙ rw e
+
+pub xor-rest-spec : {M : Type 1} → statement M
+xor-rest-spec =
+    tie.close
+    (tie.spec
+    Inv-loop
+    μ-loop
+    loop-holds
+    mul-row
+    shared-slice-read-row
+    mul-xor-at
+    xor-at-requires
+    add-i
+    loop-less
+    loop-again
+    same-length
+    returns)

@@ -1,0 +1,87 @@
+// The exclusive-or over the members of a group that are present: of timestamps, and of payloads, four at a pass.
+ghost use mathlib.Core.Path.{_≡_};
+ghost use mathlib.Core.List.{map};
+ghost use Prim.Native.Nat.{ℕ, _+_, _*_, _≤_, _<_};
+ghost use lib.ListN.{length, getD, take, drop};
+ghost use lib.Bits.{bitXor};
+ghost use Rattle.sequence.specs.Lists.{keep};
+ghost use Rattle.xor.specs.Xor.{xorAll, xorParts};
+ghost use Rattle.parity.specs.Rows.{line, marked, places, Rows};
+
+// The positions of a group that are present, in order: the first n of rows.
+pub struct Members {
+    pub rows: [usize; 20],
+    pub n: usize,
+}
+
+pub fn members_present(marks: &[u8], at: usize, offset: usize, na: usize) -> Members
+    requires { ⌜ (offset ≤ 20) × (na ≤ 20) × ((j : ℕ) → j < na → at + j * offset < length (now marks)) ⌝ }
+    ensures { λ r. ⌜ (r .n ≤ na) × (length (r .rows) ≡ 20) × (take (r .n) (r .rows) ≡ keep (marked (now (marks .entry))) (line at offset na)) ⌝ }
+{
+    let mut rows = [0usize; 20];
+    let mut n = 0;
+    let mut j = 0;
+    while j < na {
+        let i = at + j * offset;
+        if marks[i] != 0 {
+            rows[n] = i;
+            n += 1;
+        }
+        j += 1;
+    }
+    Members { rows, n }
+}
+
+// A number xored with the timestamps of the first n rows.
+pub fn xor_timestamps(timestamps: &[u32], rows: &[usize], n: usize, with: u32) -> u32
+    requires { ⌜ (n ≤ length (now rows)) × ((i : ℕ) → i < n → getD (now rows) i 0 < length (now timestamps)) ⌝ }
+    ensures { λ r. ⌜ r ≡ bitXor with (xorAll (map (λ i. getD (now (timestamps .entry)) i 0) (take n (now (rows .entry))))) ⌝ }
+{
+    let mut sum = with;
+    let mut i = 0;
+    while i < n {
+        let row = rows[i];
+        sum = sum ^ timestamps[row];
+        i += 1;
+    }
+    sum
+}
+
+// The payloads of as many of the first n rows as make up fours, xored into sum from at; how many rows those are.
+pub fn xor_fours(sum: &mut [u8], at: usize, media: &[u8], rows: &[usize], n: usize, p: usize) -> usize
+    requires { ⌜ (at + p ≤ length (now sum)) × Rows (now rows) n p (length (now media)) ⌝ }
+    ensures { λ r. ⌜ (r ≤ n) × (now (sum .exit) ≡ xorParts (now (media .entry)) (places p (take r (now (rows .entry)))) at p (now (sum .entry))) ⌝ }
+{
+    let mut i = 0;
+    while 4 <= n - i {
+        let a = rows[i];
+        let b = rows[i + 1];
+        let c = rows[i + 2];
+        let d = rows[i + 3];
+        xor::xor4_at(sum, at, media, a * p, b * p, c * p, d * p, p);
+        i += 4;
+    }
+    i
+}
+
+// The payloads of the rows from `from` to n, one at a pass.
+pub fn xor_rest(sum: &mut [u8], at: usize, media: &[u8], rows: &[usize], from: usize, n: usize, p: usize)
+    requires { ⌜ (at + p ≤ length (now sum)) × (from ≤ n) × Rows (now rows) n p (length (now media)) ⌝ }
+    ensures { λ _. ⌜ now (sum .exit) ≡ xorParts (now (media .entry)) (places p (drop from (take n (now (rows .entry))))) at p (now (sum .entry)) ⌝ }
+{
+    let mut i = from;
+    while i < n {
+        let row = rows[i];
+        xor::xor_at(sum, at, media, row * p, p);
+        i += 1;
+    }
+}
+
+// The payloads of the first n rows xored into sum from at.
+pub fn xor_rows(sum: &mut [u8], at: usize, media: &[u8], rows: &[usize], n: usize, p: usize)
+    requires { ⌜ (at + p ≤ length (now sum)) × Rows (now rows) n p (length (now media)) ⌝ }
+    ensures { λ _. ⌜ now (sum .exit) ≡ xorParts (now (media .entry)) (places p (take n (now (rows .entry)))) at p (now (sum .entry)) ⌝ }
+{
+    let done = xor_fours(sum, at, media, rows, n, p);
+    xor_rest(sum, at, media, rows, done, n, p);
+}
