@@ -10,7 +10,7 @@ use Rattle.window.specs.declared.Window.{Window}
 use Rattle.window.specs.Store.{Store}
 use Rattle.window.specs.Group.{position, group, missing}
 use Rattle.window.specs.Order.{inUse}
-use Rattle.receiver.specs.State.{State, Recovery, storeMedia, rebuild, hold}
+use Rattle.settle.specs.State.{State, Recovery, storeMedia, rebuild, hold}
 
 -- the payload of a media and of a parity datagram
 abbrev pub mediaPayload : List ℕ → List ℕ

@@ -19,8 +19,8 @@ use Rattle.window.specs.Store.{Store, shortStore, payloadAt, timestampAt, parit
 use Rattle.window.specs.Group.{position, group, inside, lost, missing}
 use Rattle.window.specs.Order.{inUse, disorder}
 use Rattle.receiver.specs.Datagram.{mediaPacket, Outer, parityPacket}
-use Rattle.receiver.specs.State.{State}
-use Rattle.receiver.specs.Settle.{settle}
+use Rattle.settle.specs.State.{State}
+use Rattle.settle.specs.Settle.{settle}
 use Rattle.receiver.specs.Accept.{mediaPayload, recoveryOf, acceptMedia, acceptParity}
 
 -- what a call gives back, and leaves in the lent store

@@ -7,7 +7,9 @@ use Prim.Native.Nat.{ℕ, zero, suc, _+_, _<_, _≤_}
 use native.Mathlib.Nat.{eq-or-lt-of-le, le-of-suc-le-suc}
 use native.Mathlib.Numerals.{add-one}
 use native.Mathlib.Omega.{arith}
+use lib.Dec.{ltb}
 use lib.ListN.{length, length-append}
+use borrow.Author.Tests.{lt-ltb}
 
 -- the numbers below n, in order
 abbrev pub upTo : ℕ → List ℕ
@@ -109,6 +111,15 @@ module _ (test : ℕ → Bool) where
   count-le [] = omega arith
   count-le (i ∷ l) = count-cond i (test i) (keep test l) (length l) (count-le l)
 
+  -- a test holds of some element where its count is above 0
+  any-one : (i : ℕ) (t b : Bool) (l : List ℕ) → b ≡ ltb 0 (length l) → (t || b) ≡ ltb 0 (length (cond t (i ∷ l) l))
+  any-one i true b l e = sym (lt-ltb 0 (length (i ∷ l)) (omega arith))
+  any-one i false b l e = e
+
+  pub any-count : (l : List ℕ) → any test l ≡ ltb 0 (count test l)
+  any-count [] = refl
+  any-count (i ∷ l) = any-one i (test i) (any test l) (keep test l) (any-count l)
+
   -- ---- laws: of mapped lists
   pub all-map : (f : ℕ → ℕ) (l : List ℕ) → all test (map f l) ≡ all (λ i. test (f i)) l
   all-map f [] = refl
@@ -144,3 +155,7 @@ module _ (test : ℕ → Bool) where
   any-false (suc n) e =
       let s = or-split (any test (upTo n)) (test n) (sym (any-suc n) ∙ e) in
       below-suc (λ i. test i ≡ false) n (any-false n (s .0)) (s .1)
+
+  pub false-any : (n : ℕ) → ((i : ℕ) → i < n → test i ≡ false) → any test (upTo n) ≡ false
+  false-any zero h = refl
+  false-any (suc n) h = rw (any-suc n, false-any n (λ i l. h i (omega arith))) (h n (omega arith))

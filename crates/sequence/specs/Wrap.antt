@@ -78,19 +78,19 @@ module _ (w base : ℕ) (h : base ≤ 2 ^ w) (snbase offset na : ℕ) where
       ∙ all-map (λ i. ltb (ahead w base i) n) (member w snbase offset) (upTo na)
       ∙ go (ltb (ahead w base snbase + (na - 1) * offset) n) refl
     where
-    inside : ℕ → Bool
-    inside j = ltb (ahead w base (member w snbase offset j)) n
+      inside : ℕ → Bool
+      inside j = ltb (ahead w base (member w snbase offset j)) n
 
-    at : (j : ℕ) → ahead w base snbase + j * offset < 2 ^ w → inside j ≡ ltb (ahead w base snbase + j * offset) n
-    at j l = ap (λ (i : ℕ). ltb i n) (ahead-plain w base h snbase offset j l)
+      at : (j : ℕ) → ahead w base snbase + j * offset < 2 ^ w → inside j ≡ ltb (ahead w base snbase + j * offset) n
+      at j l = ap (λ (i : ℕ). ltb i n) (ahead-plain w base h snbase offset j l)
 
-    outside : (b : Bool) → ltb (ahead w base snbase) n ≡ b → n ≤ ahead w base snbase + (na - 1) * offset → all inside (upTo na) ≡ false
-    outside true e f = not-all inside na (na - 1) (omega arith) (at (na - 1) (let q = ltb-true (ahead w base snbase) n e in omega arith) ∙ le-ltb (ahead w base snbase + (na - 1) * offset) n f)
-    outside false e f =
-        not-all inside na 0 pos (at 0 (let q = ahead-lt w base snbase in omega arith) ∙ le-ltb (ahead w base snbase + 0 * offset) n (let q = ltb-false (ahead w base snbase) n e in omega arith))
+      outside : (b : Bool) → ltb (ahead w base snbase) n ≡ b → n ≤ ahead w base snbase + (na - 1) * offset → all inside (upTo na) ≡ false
+      outside true e f = not-all inside na (na - 1) (omega arith) (at (na - 1) (let q = ltb-true (ahead w base snbase) n e in omega arith) ∙ le-ltb (ahead w base snbase + (na - 1) * offset) n f)
+      outside false e f =
+          not-all inside na 0 pos (at 0 (let q = ahead-lt w base snbase in omega arith) ∙ le-ltb (ahead w base snbase + 0 * offset) n (let q = ltb-false (ahead w base snbase) n e in omega arith))
 
-    go : (b : Bool) → ltb (ahead w base snbase + (na - 1) * offset) n ≡ b → all inside (upTo na) ≡ b
-    go true e =
-        true-all inside na
-        (λ j l. let m : j * offset ≤ (na - 1) * offset = mul-le-mul-right offset (omega arith) in let q = ltb-true (ahead w base snbase + (na - 1) * offset) n e in at j (omega arith) ∙ lt-ltb (ahead w base snbase + j * offset) n (omega arith))
-    go false e = outside (ltb (ahead w base snbase) n) refl (ltb-false (ahead w base snbase + (na - 1) * offset) n e)
+      go : (b : Bool) → ltb (ahead w base snbase + (na - 1) * offset) n ≡ b → all inside (upTo na) ≡ b
+      go true e =
+          true-all inside na
+          (λ j l. let m : j * offset ≤ (na - 1) * offset = mul-le-mul-right offset (omega arith) in let q = ltb-true (ahead w base snbase + (na - 1) * offset) n e in at j (omega arith) ∙ lt-ltb (ahead w base snbase + j * offset) n (omega arith))
+      go false e = outside (ltb (ahead w base snbase) n) refl (ltb-false (ahead w base snbase + (na - 1) * offset) n e)

@@ -5,6 +5,7 @@ use Prim.Native.Nat.{ℕ, _*_}
 use lib.Dec.{ltb}
 use lib.ListN.{length, getD, take, drop, replicate}
 use Rattle.window.specs.declared.Window.{Window}
+use Rattle.window.specs.declared.Sizes.{Sizes}
 
 -- the lent store: for each position a payload, a timestamp and a present mark; for each record of parity in hand
 -- a payload, a stream, an SNBase, a timestamp recovery and an in-use mark
@@ -18,17 +19,35 @@ pub record Store : Type 0 where
   pub recoveries : List ℕ
   pub uses : List ℕ
 
+-- how many elements each part has
+abbrev pub sizesOf : Store → Sizes
+sizesOf s =
+    record {
+      media = length (s .media);
+      timestamps = length (s .timestamps);
+      marks = length (s .marks);
+      parity = length (s .parity);
+      streams = length (s .streams);
+      snbases = length (s .snbases);
+      recoveries = length (s .recoveries);
+      uses = length (s .uses);
+    }
+
+-- a part has fewer elements than the window needs
+abbrev pub shortSizes : Window → Sizes → Bool
+shortSizes w z =
+    ltb (z .media) (w .n * w .p)
+    || ltb (z .timestamps) (w .n)
+    || ltb (z .marks) (w .n)
+    || ltb (z .parity) (w .k * w .p)
+    || ltb (z .streams) (w .k)
+    || ltb (z .snbases) (w .k)
+    || ltb (z .recoveries) (w .k)
+    || ltb (z .uses) (w .k)
+
 -- 4: a part of the store is shorter than the window needs
 abbrev pub shortStore : Window → Store → Bool
-shortStore w s =
-    ltb (length (s .media)) (w .n * w .p)
-    || ltb (length (s .timestamps)) (w .n)
-    || ltb (length (s .marks)) (w .n)
-    || ltb (length (s .parity)) (w .k * w .p)
-    || ltb (length (s .streams)) (w .k)
-    || ltb (length (s .snbases)) (w .k)
-    || ltb (length (s .recoveries)) (w .k)
-    || ltb (length (s .uses)) (w .k)
+shortStore w s = shortSizes w (sizesOf s)
 
 -- the payload kept at a position
 abbrev pub payloadAt : Window → Store → ℕ → List ℕ

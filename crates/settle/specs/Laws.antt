@@ -8,7 +8,7 @@ use lib.Bits.{bitXor}
 use Rattle.xor.specs.Xor.{xorAll}
 use Rattle.window.specs.Store.{timestampAt}
 use Rattle.window.specs.Group.{present}
-use Rattle.receiver.specs.State.{State, Recovery, rebuild}
+use Rattle.settle.specs.State.{State, Recovery, rebuild}
 
 -- the timestamp is the exclusive-or of the recovery and of the timestamps held of the group, and no neighbour's
 pub rebuilt-timestamp : (group : List ℕ) (v : Recovery) (i : ℕ) (x : State) → i < length (x .store .timestamps)

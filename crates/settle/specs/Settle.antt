@@ -10,7 +10,7 @@ use Rattle.window.specs.Store.{Store, streamAt, snbaseAt, recoveryAt, parityAt}
 use Rattle.window.specs.declared.Window.{Window}
 use Rattle.window.specs.Group.{position, missing}
 use Rattle.window.specs.Order.{inUse, groupAt}
-use Rattle.receiver.specs.State.{State, Recovery, rebuild, release}
+use Rattle.settle.specs.State.{State, Recovery, rebuild, release}
 
 -- how many packets of a record's group are missing
 abbrev pub lack : State → ℕ → ℕ

@@ -1,0 +1,105 @@
+-- The members of a group that are present, as rows of the store: they lie in the window, so their rows lie in the media store. Assumes nothing.
+use mathlib.Core.Path.{_≡_, refl, sym, ap, _∙_}
+use mathlib.Core.Bool.{Bool, true, false, cond}
+use mathlib.Core.List.{List, [], _∷_, _++_, map}
+use Prim.Native.Nat.{ℕ, zero, suc, _+_, _*_, _^_, _<_, _≤_}
+use native.Mathlib.Nat.{mul-le-mul-right, suc-mul}
+use native.Mathlib.Omega.{arith}
+use lib.ListN.{length, getD, take, drop, length-drop}
+use lib.Seq.{paste, getD-take, length-take-le}
+use Rattle.sequence.specs.Lists.{upTo, keep, map-append}
+use Rattle.sequence.specs.Wrap.{ahead}
+use Rattle.rtp.specs.Fec.{offsetOf, naOf}
+use Rattle.parity.specs.Rows.{line, marked, Rows}
+use Rattle.xor.specs.Xor.{zipXor, xorPayloads}
+use Rattle.parity.specs.Sum.{Ends, rowAt, pasted, through-buffer, length-payloads}
+use Rattle.window.specs.Bounds.{Profile}
+use Rattle.settle.specs.State.{payloadOver}
+use Rattle.window.specs.Plain.{Inside, Shape, shape-of, groupOf, group-plain, inside-more}
+
+-- every element of a list is below a bound
+abbrev pub Below : ℕ → List ℕ → Type 0
+Below b [] = Unit
+Below b (i ∷ l) = (i < b) × Below b l
+
+below-append : (b : ℕ) (l m : List ℕ) → Below b l → Below b m → Below b (l ++ m)
+below-append b [] m p q = q
+below-append b (i ∷ l) m p q = (p .0, below-append b l m (p .1) q)
+
+below-keep : (b : ℕ) (test : ℕ → Bool) (l : List ℕ) → Below b l → Below b (keep test l)
+below-keep b test [] p = tt
+below-keep b test (i ∷ l) p = go (test i) (below-keep b test l (p .1))
+  where
+    go : (t : Bool) → Below b (keep test l) → Below b (cond t (i ∷ keep test l) (keep test l))
+    go true q = (p .0, q)
+    go false q = q
+
+below-map : (b : ℕ) (f : ℕ → ℕ) (n : ℕ) → ((j : ℕ) → j < n → f j < b) → Below b (map f (upTo n))
+below-map b f zero h = tt
+below-map b f (suc n) h = rw (map-append f (upTo n) (n ∷ [])) (below-append b (map f (upTo n)) (f n ∷ []) (below-map b f n (λ j l. h j (omega arith))) (h n (omega arith), tt))
+
+pub below-getD : (b : ℕ) (l : List ℕ) → Below b l → (i : ℕ) → i < length l → getD l i 0 < b
+below-getD b [] p i h = absurd (omega (arith, h))
+below-getD b (j ∷ l) p zero h = p .0
+below-getD b (j ∷ l) p (suc i) h = below-getD b l (p .1) i (omega arith)
+
+-- row i of n rows of p bytes lies within them
+pub row-ends : (i n p m : ℕ) → i < n → n * p ≤ m → i * p + p ≤ m
+row-ends i n p m h e = let k = rw (suc-mul i p) at (mul-le-mul-right p h) in omega arith
+
+pub below-ends : (n p : ℕ) (media : List ℕ) → n * p ≤ length media → (l : List ℕ) → Below n l → Ends p media l
+below-ends n p media e [] q = tt
+below-ends n p media e (i ∷ l) q = (row-ends i n p (length media) (q .0) e, below-ends n p media e l (q .1))
+
+-- ---- a group inside a window of n positions, its step, size and first position as the code has them
+module _ (base l d stream start n at offset na : ℕ) (b : base < 2 ^ 16) (prof : Profile l d) (small : n ≤ 400) (inside : Inside base l d stream start n) (eat : at ≡ ahead 16 base start) (eoff : offset ≡ offsetOf stream l) (ena : na ≡ naOf stream l d) where
+  places-below : (j : ℕ) → j < na → at + j * offset < n
+  places-below j h = rw (eat, eoff) (inside .below j (rw ena at h))
+
+  pub members-asked : (marks : List ℕ) → n ≤ length marks → (offset ≤ 20) × (na ≤ 20) × ((j : ℕ) → j < na → at + j * offset < length marks)
+  members-asked marks h =
+      let s = shape-of l d stream prof in
+      (omega (arith, s .step-high), omega (arith, s .na-high), λ j k. let q = places-below j k in omega arith)
+
+  line-group : line at offset na ≡ groupOf base l d stream start
+  line-group = rw (eat, eoff, ena) (sym (group-plain base l d stream start b prof (inside-more 400 small inside)))
+
+  module _ (marks rows : List ℕ) (m : ℕ) (few : m ≤ na) (long : length rows ≡ 20) (are : take m rows ≡ keep (marked marks) (line at offset na)) where
+    pub held : take m rows ≡ keep (marked marks) (groupOf base l d stream start)
+    held = are ∙ ap (keep (marked marks)) line-group
+
+    m-long : m ≤ length rows
+    m-long = let s = shape-of l d stream prof in omega (arith, s .na-high)
+
+    pub held-below : Below n (take m rows)
+    held-below = rw are (below-keep n (marked marks) (line at offset na) (below-map n (λ j. at + j * offset) na places-below))
+
+    row-below : (i : ℕ) → i < m → getD rows i 0 < n
+    row-below i h = rw (getD-take m rows i 0 h) at (below-getD n (take m rows) held-below i (rw (length-take-le m rows m-long) h))
+
+    pub rows-asked : (p : ℕ) (media : List ℕ) → n * p ≤ length media → Rows rows m p (length media)
+    rows-asked p media h = record { long = m-long; ends = λ i k. row-ends (getD rows i 0) n p (length media) (row-below i k) h }
+
+    pub stamps-asked : (timestamps : List ℕ) → n ≤ length timestamps → (m ≤ length rows) × ((i : ℕ) → i < m → getD rows i 0 < length timestamps)
+    stamps-asked timestamps h = (m-long, λ i k. let q = row-below i k in omega arith)
+
+-- ---- a group inside a window, by its definition
+module _ (base l d stream start n : ℕ) (b : base < 2 ^ 16) (prof : Profile l d) (small : n ≤ 400) (inside : Inside base l d stream start n) where
+  pub group-below : Below n (groupOf base l d stream start)
+  group-below =
+      rw (group-plain base l d stream start b prof (inside-more 400 small inside))
+      (below-map n (λ j. ahead 16 base start + j * offsetOf stream l) (naOf stream l d) (λ j k. inside .below j k))
+
+  pub kept-ends : (test : ℕ → Bool) (p : ℕ) (media : List ℕ) → n * p ≤ length media → Ends p media (keep test (groupOf base l d stream start))
+  kept-ends test p media h = below-ends n p media h (keep test (groupOf base l d stream start)) (below-keep n test (groupOf base l d stream start) group-below)
+
+-- a recovery of p bytes, copied into a buffer, added up there and copied to its row
+pub through : (p at from : ℕ) (media marks group recovery buffer s t : List ℕ) → p ≤ length buffer → from + p ≤ length recovery → Ends p media (keep (marked marks) group)
+    → s ≡ paste buffer 0 (drop from recovery) p → t ≡ paste s 0 (payloadOver p media marks group s) p
+    → paste media at t p ≡ paste media at (payloadOver p media marks group (take p (drop from recovery))) p
+through p at from media marks group recovery buffer s t hb hr e es et =
+    let x : List ℕ = xorPayloads p (map (rowAt p media) (keep (marked marks) group)) in
+    let v : List ℕ = drop from recovery in
+    let hv : p ≤ length v = simp length-drop (omega arith) in
+    pasted p at media t (zipXor (take p v) x)
+    (ap (take p) (et ∙ ap (λ (y : List ℕ). paste y 0 (zipXor y x) p) es) ∙ through-buffer p buffer v x hb hv (omega (arith, length-payloads p media (keep (marked marks) group) e)))

@@ -1,0 +1,70 @@
+-- `settle::add_up` meets its contract: the rows are the members that are present. Assumes nothing.
+use native.Mathlib.Omega.{arith}
+use mathlib.Core.Path.{_≡_, sym, ap, _∙_}
+use mathlib.Core.List.{List, map}
+use Prim.Native.Nat.{ℕ}
+use lib.ListN.{getD, take, drop}
+use lib.Seq.{paste}
+use lib.Bits.{bitXor}
+use Rattle.xor.specs.Xor.{zipXor, xorAll, xorPayloads}
+use Rattle.parity.specs.Sum.{rowAt, rows-sum}
+use Rattle.settle.proofs.Members.{members-asked, rows-asked, stamps-asked, held, held-below, below-ends}
+use borrow.Author.Needs.{needs}
+use Rattle.settle.proofs.add_up.Statement.{statement}
+use Rattle.settle.proofs.add_up.Tie as tie
+
+position-requires : tie.Need-position-requires
+position-requires c κs = search needs
+
+cast-at : tie.Need-cast-at
+cast-at c = search needs
+
+offset-of-requires : tie.Need-offset-of-requires
+offset-of-requires c κs = search needs
+
+na-of-requires : tie.Need-na-of-requires
+na-of-requires c κs = search needs
+
+members-present-requires : tie.Need-members-present-requires
+members-present-requires c κs = members-asked (c .before .before .before .before .before .before .before .args .w .base) (c .before .before .before .before .before .before .before .args .w .l) (c .before .before .before .before .before .before .before .args .w .d) (c .before .before .before .before .before .before .before .args .stream) (c .before .before .before .before .before .before .before .args .start) (c .before .before .before .before .before .before .before .args .w .n) (c .before .before .position .result) (c .before .offset-of .result) (c .na-of .result) (omega (arith, c .before .before .before .before .before .before .before .good)) (c .before .before .before .before .before .before .before .pre .0 .profile) (c .before .before .before .before .before .before .before .pre .0 .n-high) (c .before .before .before .before .before .before .before .pre .1) (c .before .before .position .ensures) (c .before .offset-of .ensures) (c .na-of .ensures) (c .before .before .before .before .before .before .before .args .marks .now) (c .before .before .before .before .before .before .before .pre .5)
+
+slice-aggregate-xor-rows : tie.Need-slice-aggregate-xor-rows
+slice-aggregate-xor-rows c = search needs
+
+xor-rows-requires : tie.Need-xor-rows-requires
+xor-rows-requires c κs = (c .before .before .before .before .before .before .before .before .before .before .before .pre .2, rows-asked (c .before .before .before .before .before .before .before .before .before .before .before .args .w .base) (c .before .before .before .before .before .before .before .before .before .before .before .args .w .l) (c .before .before .before .before .before .before .before .before .before .before .before .args .w .d) (c .before .before .before .before .before .before .before .before .before .before .before .args .stream) (c .before .before .before .before .before .before .before .before .before .before .before .args .start) (c .before .before .before .before .before .before .before .before .before .before .before .args .w .n) (c .before .before .before .before .before .before .position .result) (c .before .before .before .before .before .offset-of .result) (c .before .before .before .before .na-of .result) (omega (arith, c .before .before .before .before .before .before .before .before .before .before .before .good)) (c .before .before .before .before .before .before .before .before .before .before .before .pre .0 .profile) (c .before .before .before .before .before .before .before .before .before .before .before .pre .0 .n-high) (c .before .before .before .before .before .before .before .before .before .before .before .pre .1) (c .before .before .before .before .before .before .position .ensures) (c .before .before .before .before .before .offset-of .ensures) (c .before .before .before .before .na-of .ensures) (c .before .before .before .before .before .before .before .before .before .before .before .args .marks .now) (c .before .before .before .members-present .result .rows) (c .before .before .before .members-present .result .n) (c .before .before .before .members-present .ensures .0) (c .before .before .before .members-present .ensures .1) (c .before .before .before .members-present .ensures .2) (c .before .before .before .before .before .before .before .before .before .before .before .args .w .p) (c .before .before .before .before .before .before .before .before .before .before .before .args .media .now) (c .before .before .before .before .before .before .before .before .before .before .before .pre .3))
+
+slice-aggregate-xor-timestamps : tie.Need-slice-aggregate-xor-timestamps
+slice-aggregate-xor-timestamps c = search needs
+
+xor-timestamps-requires : tie.Need-xor-timestamps-requires
+xor-timestamps-requires c κs = stamps-asked (c .before .before .before .before .before .before .before .before .before .before .before .before .before .before .before .args .w .base) (c .before .before .before .before .before .before .before .before .before .before .before .before .before .before .before .args .w .l) (c .before .before .before .before .before .before .before .before .before .before .before .before .before .before .before .args .w .d) (c .before .before .before .before .before .before .before .before .before .before .before .before .before .before .before .args .stream) (c .before .before .before .before .before .before .before .before .before .before .before .before .before .before .before .args .start) (c .before .before .before .before .before .before .before .before .before .before .before .before .before .before .before .args .w .n) (c .before .before .before .before .before .before .before .before .before .before .position .result) (c .before .before .before .before .before .before .before .before .before .offset-of .result) (c .before .before .before .before .before .before .before .before .na-of .result) (omega (arith, c .before .before .before .before .before .before .before .before .before .before .before .before .before .before .before .good)) (c .before .before .before .before .before .before .before .before .before .before .before .before .before .before .before .pre .0 .profile) (c .before .before .before .before .before .before .before .before .before .before .before .before .before .before .before .pre .0 .n-high) (c .before .before .before .before .before .before .before .before .before .before .before .before .before .before .before .pre .1) (c .before .before .before .before .before .before .before .before .before .before .position .ensures) (c .before .before .before .before .before .before .before .before .before .offset-of .ensures) (c .before .before .before .before .before .before .before .before .na-of .ensures) (c .before .before .before .before .before .before .before .before .before .before .before .before .before .before .before .args .marks .now) (c .before .before .before .before .before .before .before .members-present .result .rows) (c .before .before .before .before .before .before .before .members-present .result .n) (c .before .before .before .before .before .before .before .members-present .ensures .0) (c .before .before .before .before .before .before .before .members-present .ensures .1) (c .before .before .before .before .before .before .before .members-present .ensures .2) (c .before .before .before .before .before .before .before .before .before .before .before .before .before .before .before .args .timestamps .now) (c .before .before .before .before .before .before .before .before .before .before .before .before .before .before .before .pre .4)
+
+same-length : tie.Need-same-length
+same-length c = search needs
+
+returns : tie.Need-returns
+returns c = 
+    let e = held (c .before .before .before .before .before .before .before .before .before .before .before .before .before .before .before .before .args .w .base) (c .before .before .before .before .before .before .before .before .before .before .before .before .before .before .before .before .args .w .l) (c .before .before .before .before .before .before .before .before .before .before .before .before .before .before .before .before .args .w .d) (c .before .before .before .before .before .before .before .before .before .before .before .before .before .before .before .before .args .stream) (c .before .before .before .before .before .before .before .before .before .before .before .before .before .before .before .before .args .start) (c .before .before .before .before .before .before .before .before .before .before .before .before .before .before .before .before .args .w .n) (c .before .before .before .before .before .before .before .before .before .before .before .position .result) (c .before .before .before .before .before .before .before .before .before .before .offset-of .result) (c .before .before .before .before .before .before .before .before .before .na-of .result) (omega (arith, c .before .before .before .before .before .before .before .before .before .before .before .before .before .before .before .before .good)) (c .before .before .before .before .before .before .before .before .before .before .before .before .before .before .before .before .pre .0 .profile) (c .before .before .before .before .before .before .before .before .before .before .before .before .before .before .before .before .pre .0 .n-high) (c .before .before .before .before .before .before .before .before .before .before .before .before .before .before .before .before .pre .1) (c .before .before .before .before .before .before .before .before .before .before .before .position .ensures) (c .before .before .before .before .before .before .before .before .before .before .offset-of .ensures) (c .before .before .before .before .before .before .before .before .before .na-of .ensures) (c .before .before .before .before .before .before .before .before .before .before .before .before .before .before .before .before .args .marks .now) (c .before .before .before .before .before .before .before .before .members-present .result .rows) (c .before .before .before .before .before .before .before .before .members-present .result .n) (c .before .before .before .before .before .before .before .before .members-present .ensures .0) (c .before .before .before .before .before .before .before .before .members-present .ensures .1) (c .before .before .before .before .before .before .before .before .members-present .ensures .2) in
+    let b = held-below (c .before .before .before .before .before .before .before .before .before .before .before .before .before .before .before .before .args .w .base) (c .before .before .before .before .before .before .before .before .before .before .before .before .before .before .before .before .args .w .l) (c .before .before .before .before .before .before .before .before .before .before .before .before .before .before .before .before .args .w .d) (c .before .before .before .before .before .before .before .before .before .before .before .before .before .before .before .before .args .stream) (c .before .before .before .before .before .before .before .before .before .before .before .before .before .before .before .before .args .start) (c .before .before .before .before .before .before .before .before .before .before .before .before .before .before .before .before .args .w .n) (c .before .before .before .before .before .before .before .before .before .before .before .position .result) (c .before .before .before .before .before .before .before .before .before .before .offset-of .result) (c .before .before .before .before .before .before .before .before .before .na-of .result) (omega (arith, c .before .before .before .before .before .before .before .before .before .before .before .before .before .before .before .before .good)) (c .before .before .before .before .before .before .before .before .before .before .before .before .before .before .before .before .pre .0 .profile) (c .before .before .before .before .before .before .before .before .before .before .before .before .before .before .before .before .pre .0 .n-high) (c .before .before .before .before .before .before .before .before .before .before .before .before .before .before .before .before .pre .1) (c .before .before .before .before .before .before .before .before .before .before .before .position .ensures) (c .before .before .before .before .before .before .before .before .before .before .offset-of .ensures) (c .before .before .before .before .before .before .before .before .before .na-of .ensures) (c .before .before .before .before .before .before .before .before .before .before .before .before .before .before .before .before .args .marks .now) (c .before .before .before .before .before .before .before .before .members-present .result .rows) (c .before .before .before .before .before .before .before .before .members-present .result .n) (c .before .before .before .before .before .before .before .before .members-present .ensures .0) (c .before .before .before .before .before .before .before .before .members-present .ensures .1) (c .before .before .before .before .before .before .before .before .members-present .ensures .2) in (
+      c .xor-timestamps .ensures ∙ ap (λ (l : List ℕ). bitXor (c .before .before .before .before .before .before .before .before .before .before .before .before .before .before .before .before .args .stamps) (xorAll (map (λ i. getD (c .before .before .before .before .before .before .before .before .before .before .before .before .before .before .before .before .args .timestamps .now) i 0) l))) e,
+      c .before .before .before .before .xor-rows .ensures
+      ∙ rows-sum (c .before .before .before .before .before .before .before .before .before .before .before .before .before .before .before .before .args .w .p) (c .before .before .before .before .before .before .before .before .before .before .before .before .before .before .before .before .args .media .now) (c .before .before .before .before .before .before .before .before .before .before .before .before .before .before .before .before .args .to) (c .before .before .before .before .before .before .before .before .before .before .before .before .before .before .before .before .args .sum .now) (c .before .before .before .before .before .before .before .before .before .before .before .before .before .before .before .before .pre .2) (take (c .before .before .before .before .before .before .before .before .members-present .result .n) (c .before .before .before .before .before .before .before .before .members-present .result .rows)) (below-ends (c .before .before .before .before .before .before .before .before .before .before .before .before .before .before .before .before .args .w .n) (c .before .before .before .before .before .before .before .before .before .before .before .before .before .before .before .before .args .w .p) (c .before .before .before .before .before .before .before .before .before .before .before .before .before .before .before .before .args .media .now) (c .before .before .before .before .before .before .before .before .before .before .before .before .before .before .before .before .pre .3) (take (c .before .before .before .before .before .before .before .before .members-present .result .n) (c .before .before .before .before .before .before .before .before .members-present .result .rows)) b)
+      ∙ ap (λ (l : List ℕ). paste (c .before .before .before .before .before .before .before .before .before .before .before .before .before .before .before .before .args .sum .now) (c .before .before .before .before .before .before .before .before .before .before .before .before .before .before .before .before .args .to) (zipXor (drop (c .before .before .before .before .before .before .before .before .before .before .before .before .before .before .before .before .args .to) (c .before .before .before .before .before .before .before .before .before .before .before .before .before .before .before .before .args .sum .now)) (xorPayloads (c .before .before .before .before .before .before .before .before .before .before .before .before .before .before .before .before .args .w .p) (map (rowAt (c .before .before .before .before .before .before .before .before .before .before .before .before .before .before .before .before .args .w .p) (c .before .before .before .before .before .before .before .before .before .before .before .before .before .before .before .before .args .media .now)) l))) (c .before .before .before .before .before .before .before .before .before .before .before .before .before .before .before .before .args .w .p)) e,
+    )
+
+pub add-up-spec : {M : Type 1} → statement M
+add-up-spec =
+    tie.close
+    (tie.spec
+    position-requires
+    cast-at
+    offset-of-requires
+    na-of-requires
+    members-present-requires
+    slice-aggregate-xor-rows
+    xor-rows-requires
+    slice-aggregate-xor-timestamps
+    xor-timestamps-requires
+    same-length
+    returns)
