@@ -15,10 +15,10 @@ use Rattle.window.specs.declared.Window.{Window}
 use Rattle.window.specs.Store.{Store, timestampAt}
 use Rattle.window.specs.Group.{width}
 use Rattle.window.specs.Order.{disorder}
-use Rattle.receiver.specs.Datagram.{mediaPacket, Outer, parityPacket}
+use Rattle.calls.specs.Datagram.{mediaPacket, Outer, parityPacket}
 use Rattle.settle.specs.State.{rebuild}
 use Rattle.settle.specs.Settle.{next, releaseAll, round, settle}
-use Rattle.receiver.specs.Call.{Outcome, asked, opened, offeredMedia, offeredParity, same, same-eq, both}
+use Rattle.calls.specs.Call.{Outcome, asked, opened, offeredMedia, offeredParity, same, same-eq, both}
 
 -- a case: its number, what the definitions give, and what the document says
 pub record Case : Type 0 where

@@ -61,7 +61,7 @@ module _ (base l d stream start n at offset na : ℕ) (b : base < 2 ^ 16) (prof 
       let s = shape-of l d stream prof in
       (omega (arith, s .step-high), omega (arith, s .na-high), λ j k. let q = places-below j k in omega arith)
 
-  line-group : line at offset na ≡ groupOf base l d stream start
+  pub line-group : line at offset na ≡ groupOf base l d stream start
   line-group = rw (eat, eoff, ena) (sym (group-plain base l d stream start b prof (inside-more 400 small inside)))
 
   module _ (marks rows : List ℕ) (m : ℕ) (few : m ≤ na) (long : length rows ≡ 20) (are : take m rows ≡ keep (marked marks) (line at offset na)) where

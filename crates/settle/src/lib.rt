@@ -1,12 +1,21 @@
 // Settling: parity in hand rebuilds until none of it has exactly one packet missing.
 use window::Window;
 ghost use mathlib.Core.Path.{_≡_};
-ghost use Prim.Native.Nat.{_+_, _*_, _≤_, _<_};
-ghost use lib.ListN.{length, drop, take, set};
+ghost use mathlib.Core.Bool.{_&&_, true};
+ghost use mathlib.Core.List.{List, []};
+ghost use Prim.Native.Nat.{ℕ, _+_, _*_, _-_, _≤_, _<_};
+ghost use lib.Dec.{eqb};
+ghost use lib.ListN.{length, getD, drop, take, set};
 ghost use lib.Seq.{paste};
-ghost use Rattle.window.specs.Bounds.{SetUp};
+ghost use Rattle.sequence.specs.Lists.{keep, headOr};
+ghost use Rattle.sequence.specs.Wrap.{ahead};
+ghost use Rattle.parity.specs.Rows.{line};
+ghost use Rattle.window.specs.Bounds.{SetUp, Profile};
 ghost use Rattle.window.specs.Plain.{Inside, groupOf};
-ghost use Rattle.settle.specs.State.{stampOver, payloadOver};
+ghost use Rattle.window.specs.InOrder.{tables};
+ghost use Rattle.settle.specs.State.{stampOver, payloadOver, recount};
+ghost use Rattle.settle.specs.Scan.{unmarked, found, pick, Records, Kept, stored};
+ghost use Rattle.settle.specs.Settle.{next, releaseSpent, releaseBelow, releaseAll, round};
 
 // The payloads held of a group xored into a buffer from a place on; the timestamps held xored with a number.
 pub fn add_up(
@@ -59,4 +68,165 @@ pub fn rebuild_at(
     xor::copy_at(media, i * p, &sum, 0, p);
     timestamps[i] = stamp;
     marks[i] = 1;
+}
+
+// ---- which record is next
+
+// The first position of a line whose mark is 0, or 0.
+fn first_unmarked(marks: &[u8], at: usize, offset: usize, na: usize) -> usize
+    requires { ⌜ (offset ≤ 20) × (na ≤ 20) × ((j : ℕ) → j < na → at + j * offset < length (now marks)) ⌝ }
+    ensures { λ r. ⌜ r ≡ headOr 0 (keep (unmarked (now (marks .entry))) (line at offset na)) ⌝ }
+{
+    let mut j = 0;
+    while j < na {
+        let i = at + j * offset;
+        if marks[i] == 0 {
+            return i;
+        }
+        j += 1;
+    }
+    0
+}
+
+// The first missing position of a group, or 0.
+pub fn first_missing(w: Window, marks: &[u8], stream: u8, start: u16) -> usize
+    requires { ⌜ SetUp w × Inside (w .base) (w .l) (w .d) stream start (w .n) × (w .n ≤ length (now marks)) ⌝ }
+    ensures { λ r. ⌜ r ≡ headOr 0 (keep (unmarked (now (marks .entry))) (groupOf (w .base) (w .l) (w .d) stream start)) ⌝ }
+{
+    let at = sequence::position(w.base, start) as usize;
+    let offset = rtp::offset_of(stream, w.l);
+    let na = rtp::na_of(stream, w.l, w.d);
+    first_unmarked(marks, at, offset, na)
+}
+
+// A record in use with exactly one packet missing.
+fn ready(w: Window, marks: &[u8], streams: &[u8], snbases: &[u16], uses: &[u8], r: usize) -> bool
+    requires { ⌜ SetUp w × Records w (tables (now marks) (now streams) (now snbases) (now uses)) × (r < w .k) × (w .n ≤ length (now marks)) × (w .k ≤ length (now streams)) × (w .k ≤ length (now snbases)) × (w .k ≤ length (now uses)) ⌝ }
+    ensures { λ is. ⌜ is ≡ (eqb (getD (now (uses .entry)) r 0) 1
+        && eqb (length (keep (unmarked (now (marks .entry))) (groupOf (w .base) (w .l) (w .d) (getD (now (streams .entry)) r 0) (getD (now (snbases .entry)) r 0)))) 1) ⌝ }
+{
+    if uses[r] != 1 {
+        return false;
+    }
+    window::lack(w.base, marks, streams[r], snbases[r], w.l, w.d) == 1
+}
+
+// The order of rebuilding: by the position of SNBase, a column before a row.
+fn rank_of(base: u16, stream: u8, start: u16) -> usize
+    ensures { λ r. ⌜ r ≡ ahead 16 base start * 2 + stream ⌝ }
+{
+    sequence::position(base, start) as usize * 2 + stream as usize
+}
+
+// The best record so far: none where at is not below k.
+pub struct Best {
+    pub at: usize,
+    pub rank: usize,
+}
+
+fn better(b: Best, k: usize, r: usize, rank: usize, is: bool) -> Best
+    ensures { λ c. ⌜ c ≡ pick b k r rank is ⌝ }
+{
+    if is & (!(b.at < k) | (rank < b.rank)) {
+        Best { at: r, rank }
+    } else {
+        b
+    }
+}
+
+// The record that rebuilds next; K where none is ready.
+pub fn next_ready(w: Window, marks: &[u8], streams: &[u8], snbases: &[u16], uses: &[u8]) -> usize
+    requires { ⌜ SetUp w × Records w (tables (now marks) (now streams) (now snbases) (now uses)) × (w .n ≤ length (now marks)) × (w .k ≤ length (now streams)) × (w .k ≤ length (now snbases)) × (w .k ≤ length (now uses)) ⌝ }
+    ensures { λ r. ⌜ (r ≤ w .k) × (next (record { window = w; store = tables (now (marks .entry)) (now (streams .entry)) (now (snbases .entry)) (now (uses .entry)); rebuilt = 0 }) ≡ found (w .k) r) ⌝ }
+{
+    let k = w.k;
+    let mut best = Best { at: k, rank: 0 };
+    let mut r = 0;
+    while r < k {
+        let is = ready(w, marks, streams, snbases, uses, r);
+        let rank = rank_of(w.base, streams[r], snbases[r]);
+        best = better(best, k, r, rank, is);
+        r += 1;
+    }
+    best.at
+}
+
+// ---- releasing what is spent
+
+// The window value with other counts.
+pub fn recounted(w: Window, present: usize, in_use: usize) -> Window
+    ensures { λ r. ⌜ r ≡ recount w present «in_use» ⌝ }
+{
+    Window {
+        base: w.base,
+        ssrc: w.ssrc,
+        l: w.l,
+        d: w.d,
+        p: w.p,
+        n: w.n,
+        k: w.k,
+        present,
+        in_use,
+    }
+}
+
+// One less, but not below 0.
+fn one_less(x: usize) -> usize
+    ensures { λ r. ⌜ r ≡ x - 1 ⌝ }
+{
+    if x == 0 { 0 } else { x - 1 }
+}
+
+// Record r and its payload set to zero, if it is in use and none of its group is missing.
+fn release_one(
+    w: Window,
+    r: usize,
+    marks: &[u8],
+    parity: &mut [u8],
+    streams: &mut [u8],
+    snbases: &mut [u16],
+    recoveries: &mut [u32],
+    uses: &mut [u8],
+) -> Window
+    requires { ⌜ SetUp w × Records w (tables (now marks) (now streams) (now snbases) (now uses)) × (r < w .k) × (w .n ≤ length (now marks)) × (w .k * w .p ≤ length (now parity)) × (w .k ≤ length (now streams)) × (w .k ≤ length (now snbases)) × (w .k ≤ length (now recoveries)) × (w .k ≤ length (now uses)) ⌝ }
+    ensures { λ v. ⌜ ((m t : List ℕ) (b : ℕ) → record { window = v; store = stored m t (now (marks .entry)) (now (parity .exit)) (now (streams .exit)) (now (snbases .exit)) (now (recoveries .exit)) (now (uses .exit)); rebuilt = b }
+        ≡ releaseSpent r (record { window = w; store = stored m t (now (marks .entry)) (now (parity .entry)) (now (streams .entry)) (now (snbases .entry)) (now (recoveries .entry)) (now (uses .entry)); rebuilt = b })) ⌝ }
+{
+    if uses[r] != 1 {
+        return w;
+    }
+    if window::lack(w.base, marks, streams[r], snbases[r], w.l, w.d) != 0 {
+        return w;
+    }
+    xor::zero_at(parity, r * w.p, w.p);
+    streams[r] = 0;
+    snbases[r] = 0;
+    recoveries[r] = 0;
+    uses[r] = 0;
+    recounted(w, w.present, one_less(w.in_use))
+}
+
+// Every record with none missing is released.
+pub fn release_all(
+    w: Window,
+    marks: &[u8],
+    parity: &mut [u8],
+    streams: &mut [u8],
+    snbases: &mut [u16],
+    recoveries: &mut [u32],
+    uses: &mut [u8],
+) -> Window
+    requires { ⌜ Kept w (record { window = w; store = stored [] [] (now marks) (now parity) (now streams) (now snbases) (now recoveries) (now uses); rebuilt = 0 }) ⌝ }
+    ensures { λ v. ⌜ ((m t : List ℕ) (b : ℕ) → record { window = v; store = stored m t (now (marks .entry)) (now (parity .exit)) (now (streams .exit)) (now (snbases .exit)) (now (recoveries .exit)) (now (uses .exit)); rebuilt = b }
+        ≡ releaseAll (record { window = w; store = stored m t (now (marks .entry)) (now (parity .entry)) (now (streams .entry)) (now (snbases .entry)) (now (recoveries .entry)) (now (uses .entry)); rebuilt = b })) ⌝ }
+{
+    let k = w.k;
+    let mut v = w;
+    let mut r = 0;
+    while r < k {
+        let next = release_one(v, r, marks, parity, streams, snbases, recoveries, uses);
+        v = next;
+        r += 1;
+    }
+    v
 }

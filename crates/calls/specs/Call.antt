@@ -18,10 +18,10 @@ use Rattle.window.specs.Limits.{setUpTests}
 use Rattle.window.specs.Store.{Store, shortStore, payloadAt, timestampAt, parityAt, streamAt, snbaseAt, recoveryAt, zeroed}
 use Rattle.window.specs.Group.{position, group, inside, lost, missing}
 use Rattle.window.specs.Order.{inUse, disorder}
-use Rattle.receiver.specs.Datagram.{mediaPacket, Outer, parityPacket}
+use Rattle.calls.specs.Datagram.{mediaPacket, Outer, parityPacket}
 use Rattle.settle.specs.State.{State}
 use Rattle.settle.specs.Settle.{settle}
-use Rattle.receiver.specs.Accept.{mediaPayload, recoveryOf, acceptMedia, acceptParity}
+use Rattle.calls.specs.Accept.{mediaPayload, recoveryOf, acceptMedia, acceptParity}
 
 -- what a call gives back, and leaves in the lent store
 pub record Outcome : Type 0 where

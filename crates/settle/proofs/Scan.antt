@@ -1,0 +1,81 @@
+-- A turn of each scan: the first missing position of a line, and the best of the records so far. Assumes nothing.
+use mathlib.Core.Path.{_≡_, refl, sym, ap, _∙_}
+use mathlib.Core.Bool.{Bool, true, false, cond, _&&_, _||_, not}
+use mathlib.Core.List.{List, [], _∷_, _++_, map}
+use mathlib.Core.Option.{Option, none, some}
+use Prim.Native.Nat.{ℕ, zero, suc, _+_, _*_, _<_, _≤_}
+use native.Mathlib.Numerals.{add-one}
+use native.Mathlib.Omega.{arith}
+use lib.Dec.{ltb}
+use borrow.Author.Tests.{ltb-true, ltb-false, lt-ltb, le-ltb}
+use mathlib.Core.Logic.{_⊎_, inl, inr, ⊎-elim}
+use Rattle.sequence.specs.Lists.{upTo, keep, keep-append, map-append, headOr}
+use Rattle.settle.specs.declared.Best.{Best}
+use Rattle.settle.specs.State.{State}
+use Rattle.settle.specs.Scan.{found, pick}
+use Rattle.settle.specs.Settle.{ready, rank, better, nextBelow}
+
+module _ (test : ℕ → Bool) (f : ℕ → ℕ) where
+  kept-suc : (n : ℕ) → keep test (map f (upTo (suc n))) ≡ keep test (map f (upTo n)) ++ keep test (f n ∷ [])
+  kept-suc n = ap (keep test) (map-append f (upTo n) (n ∷ [])) ∙ keep-append test (map f (upTo n)) (f n ∷ [])
+
+  -- nothing so far, and nothing here
+  pub none-more : (j : ℕ) → keep test (map f (upTo j)) ≡ [] → test (f j) ≡ false → keep test (map f (upTo (j + 1))) ≡ []
+  none-more j e h = rw add-one (kept-suc j ∙ rw (e, h))
+
+  first-split : (j n : ℕ) → j < n → keep test (map f (upTo j)) ≡ [] → test (f j) ≡ true → (rest : List ℕ) × (keep test (map f (upTo n)) ≡ f j ∷ rest)
+  first-split j zero l e h = absurd (omega arith)
+  first-split j (suc n) l e h = go (ltb j n) refl (first-split j n)
+    where
+      go : (b : Bool) → ltb j n ≡ b → (j < n → keep test (map f (upTo j)) ≡ [] → test (f j) ≡ true → (rest : List ℕ) × (keep test (map f (upTo n)) ≡ f j ∷ rest))
+          → (rest : List ℕ) × (keep test (map f (upTo (suc n))) ≡ f j ∷ rest)
+      go true q ih = let r = ih (ltb-true j n q) e h in (r .0 ++ keep test (f n ∷ []), kept-suc n ∙ rw (r .1))
+      go false q ih =
+          let m : n ≡ j = let k = ltb-false j n q in omega arith in
+          ([], kept-suc n ∙ rw (m, e, h))
+
+  -- nothing so far, and here one: it is the first
+  pub first-here : (j n : ℕ) → j < n → keep test (map f (upTo j)) ≡ [] → test (f j) ≡ true → f j ≡ headOr 0 (keep test (map f (upTo n)))
+  first-here j n l e h = let r = first-split j n l e h in rw (r .1)
+
+-- what the best of the first r records says of the first r + 1
+pub record Leads (x : State) (k r : ℕ) (b : Best) : Type 0 where
+  pub is : nextBelow x r ≡ found k (b .at)
+  pub ranks : b .at < k → b .rank ≡ rank x (b .at)
+  pub low : b .at ≤ k
+
+module _ (x : State) (k r : ℕ) (here : r < k) (b : Best) (h : Leads x k r b) where
+  lead : Best
+  lead = record { at = r; rank = rank x r }
+
+  found-here : found k r ≡ some r
+  found-here = rw (lt-ltb r k here)
+
+  was-some : ltb (b .at) k ≡ true → nextBelow x r ≡ some (b .at)
+  was-some e = h .is ∙ rw e
+
+  was-none : ltb (b .at) k ≡ false → nextBelow x r ≡ none
+  was-none e = h .is ∙ rw e
+
+  go : (t u v : Bool) → ready x r ≡ t → ltb (b .at) k ≡ u → ltb (rank x r) (b .rank) ≡ v → Leads x k (r + 1) (cond (t && (not u || v)) lead b)
+  unfolding lead
+  go true true true et eu ev =
+      record {
+        is = rw (add-one r) (ap (better x r) (was-some eu) ∙ rw (et, ← h .ranks (ltb-true (b .at) k eu), ev) (sym found-here));
+        ranks = λ _. refl;
+        low = omega arith;
+      }
+  go true true false et eu ev =
+      record {
+        is = rw (add-one r) (ap (better x r) (was-some eu) ∙ rw (et, ← h .ranks (ltb-true (b .at) k eu), ev) (rw eu));
+        ranks = h .ranks;
+        low = h .low;
+      }
+  go true false v et eu ev =
+      record { is = rw (add-one r) (ap (better x r) (was-none eu) ∙ rw et (sym found-here)); ranks = λ _. refl; low = omega arith }
+  go false true v et eu ev = record { is = rw (add-one r) (ap (better x r) (was-some eu) ∙ rw et (rw eu)); ranks = h .ranks; low = h .low }
+  go false false v et eu ev = record { is = rw (add-one r) (ap (better x r) (was-none eu) ∙ rw et (rw eu)); ranks = h .ranks; low = h .low }
+
+  pub leads-more : (c : Best) (rk : ℕ) (t : Bool) → t ≡ ready x r → rk ≡ rank x r → c ≡ pick b k r rk t → Leads x k (r + 1) c
+  unfolding lead
+  leads-more c rk t et er ec = rw (ec, et, er) (go (ready x r) (ltb (b .at) k) (ltb (rank x r) (b .rank)) refl refl refl)
