@@ -90,8 +90,11 @@ module _ (base l d stream start n : ℕ) (b : base < 2 ^ 16) (prof : Profile l d
       rw (group-plain base l d stream start b prof (inside-more 400 small inside))
       (below-map n (λ j. ahead 16 base start + j * offsetOf stream l) (naOf stream l d) (λ j k. inside .below j k))
 
+  pub kept-below-group : (test : ℕ → Bool) → Below n (keep test (groupOf base l d stream start))
+  kept-below-group test = below-keep n test (groupOf base l d stream start) group-below
+
   pub kept-ends : (test : ℕ → Bool) (p : ℕ) (media : List ℕ) → n * p ≤ length media → Ends p media (keep test (groupOf base l d stream start))
-  kept-ends test p media h = below-ends n p media h (keep test (groupOf base l d stream start)) (below-keep n test (groupOf base l d stream start) group-below)
+  kept-ends test p media h = below-ends n p media h (keep test (groupOf base l d stream start)) (kept-below-group test)
 
 -- a recovery of p bytes, copied into a buffer, added up there and copied to its row
 pub through : (p at from : ℕ) (media marks group recovery buffer s t : List ℕ) → p ≤ length buffer → from + p ≤ length recovery → Ends p media (keep (marked marks) group)

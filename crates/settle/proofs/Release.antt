@@ -1,7 +1,7 @@
 -- The ways through a release, and what it leaves of the records in use. Assumes nothing.
 use mathlib.Core.Path.{_≡_, refl, sym, ap, _∙_}
 use mathlib.Core.Bool.{Bool, true, false, cond, _&&_}
-use mathlib.Core.List.{List}
+use mathlib.Core.List.{List, []}
 use Prim.Native.Nat.{ℕ, zero, suc, _*_, _<_, _≤_}
 use native.Mathlib.Omega.{arith}
 use lib.Dec.{eqb}
@@ -15,7 +15,7 @@ use Rattle.window.specs.Bounds.{SetUp}
 use Rattle.window.specs.Plain.{Inside}
 use Rattle.window.specs.InOrder.{tables}
 use Rattle.settle.specs.State.{State, recount, release}
-use Rattle.settle.specs.Scan.{Records, Kept, scene}
+use Rattle.settle.specs.Scan.{Records, Kept, scene, stored}
 use Rattle.settle.specs.Settle.{lack, releaseSpent, releaseBelow}
 use Rattle.settle.proofs.Members.{row-ends}
 
@@ -102,3 +102,20 @@ asked-one w v s b r h l =
       rw e (h .recoveries-long),
       rw e (h .uses-long),
     )
+
+-- after a rebuild, which changes the counts and the marks only, the records are as good as before
+pub kept-rebuilt : (w v : Window) (a b : ℕ) (media timestamps marks marks′ parity streams snbases recoveries uses : List ℕ)
+    → Kept w (scene w (stored media timestamps marks parity streams snbases recoveries uses) 0) → v ≡ recount w a b → length marks′ ≡ length marks
+    → Kept v (scene v (stored [] [] marks′ parity streams snbases recoveries uses) 0)
+kept-rebuilt w v a b media timestamps marks marks′ parity streams snbases recoveries uses h e l =
+    record {
+      same = refl;
+      set-up = set-up-same w v a b e (h .set-up);
+      records = rw e (record { inside = λ q k u. h .records .inside q k u });
+      marks-long = rw (l, e) (h .marks-long);
+      parity-long = rw e (h .parity-long);
+      streams-long = rw e (h .streams-long);
+      snbases-long = rw e (h .snbases-long);
+      recoveries-long = rw e (h .recoveries-long);
+      uses-long = rw e (h .uses-long);
+    }

@@ -3,6 +3,7 @@ use window::Window;
 ghost use mathlib.Core.Path.{_≡_};
 ghost use mathlib.Core.Bool.{_&&_, true};
 ghost use mathlib.Core.List.{List, []};
+ghost use mathlib.Core.Option.{none};
 ghost use Prim.Native.Nat.{ℕ, _+_, _*_, _-_, _≤_, _<_};
 ghost use lib.Dec.{eqb};
 ghost use lib.ListN.{length, getD, drop, take, set};
@@ -14,7 +15,7 @@ ghost use Rattle.window.specs.Bounds.{SetUp, Profile};
 ghost use Rattle.window.specs.Plain.{Inside, groupOf};
 ghost use Rattle.window.specs.InOrder.{tables};
 ghost use Rattle.settle.specs.State.{stampOver, payloadOver, recount};
-ghost use Rattle.settle.specs.Scan.{unmarked, found, pick, Records, Kept, stored};
+ghost use Rattle.settle.specs.Scan.{unmarked, found, pick, Records, Kept, scene, stored};
 ghost use Rattle.settle.specs.Settle.{next, releaseSpent, releaseBelow, releaseAll, round};
 
 // The payloads held of a group xored into a buffer from a place on; the timestamps held xored with a number.
@@ -229,4 +230,51 @@ pub fn release_all(
         r += 1;
     }
     v
+}
+
+// ---- rounds
+
+// The window value after a round, and how many packets it rebuilt: 1, or 0 where no record was ready.
+pub struct Round {
+    pub window: Window,
+    pub rebuilt: usize,
+}
+
+// The next record rebuilds its missing packet, and what is spent is released.
+pub fn one_round(
+    w: Window,
+    media: &mut [u8],
+    timestamps: &mut [u32],
+    marks: &mut [u8],
+    parity: &mut [u8],
+    streams: &mut [u8],
+    snbases: &mut [u16],
+    recoveries: &mut [u32],
+    uses: &mut [u8],
+) -> Round
+    requires { ⌜ Kept w (scene w (stored (now media) (now timestamps) (now marks) (now parity) (now streams) (now snbases) (now recoveries) (now uses)) 0) × (w .n * w .p ≤ length (now media)) × (w .n ≤ length (now timestamps)) × (w .present < 1000) ⌝ }
+    ensures { λ r. ⌜ ((b : ℕ) → scene (r .window) (stored (now (media .exit)) (now (timestamps .exit)) (now (marks .exit)) (now (parity .exit)) (now (streams .exit)) (now (snbases .exit)) (now (recoveries .exit)) (now (uses .exit))) (b + r .rebuilt)
+        ≡ round (scene w (stored (now (media .entry)) (now (timestamps .entry)) (now (marks .entry)) (now (parity .entry)) (now (streams .entry)) (now (snbases .entry)) (now (recoveries .entry)) (now (uses .entry))) b))
+        × (r .rebuilt ≤ 1)
+        × (r .rebuilt ≡ 0 → next (scene w (stored (now (media .entry)) (now (timestamps .entry)) (now (marks .entry)) (now (parity .entry)) (now (streams .entry)) (now (snbases .entry)) (now (recoveries .entry)) (now (uses .entry))) 0) ≡ none) ⌝ }
+{
+    let r = next_ready(w, marks, streams, snbases, uses);
+    let k = w.k;
+    if k <= r {
+        return Round {
+            window: w,
+            rebuilt: 0,
+        };
+    }
+    let stream = streams[r];
+    let start = snbases[r];
+    let stamps = recoveries[r];
+    let p = w.p;
+    let i = first_missing(w, marks, stream, start);
+    rebuild_at(
+        w, stream, start, i, stamps, parity, r * p, media, timestamps, marks,
+    );
+    let v = recounted(w, w.present + 1, w.in_use);
+    let window = release_all(v, marks, parity, streams, snbases, recoveries, uses);
+    Round { window, rebuilt: 1 }
 }
