@@ -48,7 +48,14 @@ pub fn xor_timestamps(timestamps: &[u32], rows: &[usize], n: usize, with: u32) -
 }
 
 // The payloads of as many of the first n rows as make up fours, xored into sum from at; how many rows those are.
-pub fn xor_fours(sum: &mut [u8], at: usize, media: &[u8], rows: &[usize], n: usize, p: usize) -> usize
+pub fn xor_fours(
+    sum: &mut [u8],
+    at: usize,
+    media: &[u8],
+    rows: &[usize],
+    n: usize,
+    p: usize,
+) -> usize
     requires { ⌜ (at + p ≤ length (now sum)) × Rows (now rows) n p (length (now media)) ⌝ }
     ensures { λ r. ⌜ (r ≤ n) × (now (sum .exit) ≡ xorParts (now (media .entry)) (places p (take r (now (rows .entry)))) at p (now (sum .entry))) ⌝ }
 {
@@ -65,7 +72,15 @@ pub fn xor_fours(sum: &mut [u8], at: usize, media: &[u8], rows: &[usize], n: usi
 }
 
 // The payloads of the rows from `from` to n, one at a pass.
-pub fn xor_rest(sum: &mut [u8], at: usize, media: &[u8], rows: &[usize], from: usize, n: usize, p: usize)
+pub fn xor_rest(
+    sum: &mut [u8],
+    at: usize,
+    media: &[u8],
+    rows: &[usize],
+    from: usize,
+    n: usize,
+    p: usize,
+)
     requires { ⌜ (at + p ≤ length (now sum)) × (from ≤ n) × Rows (now rows) n p (length (now media)) ⌝ }
     ensures { λ _. ⌜ now (sum .exit) ≡ xorParts (now (media .entry)) (places p (drop from (take n (now (rows .entry))))) at p (now (sum .entry)) ⌝ }
 {

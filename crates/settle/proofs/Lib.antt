@@ -2,3 +2,4 @@ pub mod Members
 pub mod Scan
 pub mod Release
 pub mod Rounds
+pub mod Settling

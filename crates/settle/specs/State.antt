@@ -79,9 +79,9 @@ rebuild group v i x =
     record {
       window = recount (x .window) (x .window .present + 1) (x .window .«in_use»);
       store =
-        put (x .window) (x .store) i
-        (stampOver (x .store .timestamps) (x .store .marks) group (v .stamps))
-        (payloadOver (x .window .p) (x .store .media) (x .store .marks) group (v .payload));
+          put (x .window) (x .store) i
+          (stampOver (x .store .timestamps) (x .store .marks) group (v .stamps))
+          (payloadOver (x .window .p) (x .store .media) (x .store .marks) group (v .payload));
       rebuilt = x .rebuilt + 1;
     }
 

@@ -65,7 +65,17 @@ pub fn rebuild_at(
     let p = w.p;
     let mut sum = [0u8; 1428];
     xor::copy_at(&mut sum, 0, recovery, from, p);
-    let stamp = add_up(&mut sum, 0, w, stream, start, stamps, media, timestamps, marks);
+    let stamp = add_up(
+        &mut sum,
+        0,
+        w,
+        stream,
+        start,
+        stamps,
+        media,
+        timestamps,
+        marks,
+    );
     xor::copy_at(media, i * p, &sum, 0, p);
     timestamps[i] = stamp;
     marks[i] = 1;
@@ -272,9 +282,66 @@ pub fn one_round(
     let p = w.p;
     let i = first_missing(w, marks, stream, start);
     rebuild_at(
-        w, stream, start, i, stamps, parity, r * p, media, timestamps, marks,
+        w,
+        stream,
+        start,
+        i,
+        stamps,
+        parity,
+        r * p,
+        media,
+        timestamps,
+        marks,
     );
     let v = recounted(w, w.present + 1, w.in_use);
     let window = release_all(v, marks, parity, streams, snbases, recoveries, uses);
     Round { window, rebuilt: 1 }
+}
+
+// Rounds until no record is ready; the count goes on from the one given.
+pub fn settle(
+    w: Window,
+    rebuilt: usize,
+    media: &mut [u8],
+    timestamps: &mut [u32],
+    marks: &mut [u8],
+    parity: &mut [u8],
+    streams: &mut [u8],
+    snbases: &mut [u16],
+    recoveries: &mut [u32],
+    uses: &mut [u8],
+) -> Round
+    requires { ⌜ Kept w (scene w (stored (now media) (now timestamps) (now marks) (now parity) (now streams) (now snbases) (now recoveries) (now uses)) 0) × (w .n * w .p ≤ length (now media)) × (w .n ≤ length (now timestamps)) × (w .present + w .«in_use» < 1000) × (rebuilt ≤ 1) ⌝ }
+    ensures { λ r. ⌜ scene (r .window) (stored (now (media .exit)) (now (timestamps .exit)) (now (marks .exit)) (now (parity .exit)) (now (streams .exit)) (now (snbases .exit)) (now (recoveries .exit)) (now (uses .exit))) (r .rebuilt)
+        ≡ Rattle.settle.specs.Settle.settle (scene w (stored (now (media .entry)) (now (timestamps .entry)) (now (marks .entry)) (now (parity .entry)) (now (streams .entry)) (now (snbases .entry)) (now (recoveries .entry)) (now (uses .entry))) rebuilt) ⌝ }
+{
+    let mut v = w;
+    let mut done = rebuilt;
+    let mut left = w.in_use;
+    while 0 < left {
+        let r = one_round(
+            v,
+            media,
+            timestamps,
+            marks,
+            parity,
+            streams,
+            snbases,
+            recoveries,
+            uses,
+        );
+        v = r.window;
+        if r.rebuilt == 0 {
+            return Round {
+                window: v,
+                rebuilt: done,
+            };
+        }
+        done += 1;
+        left -= 1;
+    }
+    Round {
+        window: v,
+        rebuilt: done,
+    }
 }

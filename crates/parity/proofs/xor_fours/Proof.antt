@@ -78,10 +78,10 @@ loop-less c = search needs
 
 loop-again : tie.Need-loop-again Inv-loop μ-loop
 loop-again c = (
-      omega arith,
-      rw (c .before .before .xor4-at .ensures, c .before .before .before .before .before .before .before .before .before .loop .inv .1) (four-rows (c .before .before .before .before .before .before .before .before .before .before .before .before .before .args .media .now) (c .before .before .before .before .before .before .before .before .before .before .before .before .before .args .rows .now) (c .before .before .before .before .before .before .before .before .before .before .before .before .before .args .at) (c .before .before .before .before .before .before .before .before .before .before .before .before .before .args .p) (c .before .before .before .before .before .before .before .before .before .before .before .before .before .args .sum .now) (c .before .before .before .before .before .before .before .before .before .loop .i) (omega (arith, c .before .before .before .before .before .before .before .before .before .before .before .before .before .pre .1 .long))),
-      omega (arith, c .before .before .xor4-at .kept),
-    )
+  omega arith,
+  rw (c .before .before .xor4-at .ensures, c .before .before .before .before .before .before .before .before .before .loop .inv .1) (four-rows (c .before .before .before .before .before .before .before .before .before .before .before .before .before .args .media .now) (c .before .before .before .before .before .before .before .before .before .before .before .before .before .args .rows .now) (c .before .before .before .before .before .before .before .before .before .before .before .before .before .args .at) (c .before .before .before .before .before .before .before .before .before .before .before .before .before .args .p) (c .before .before .before .before .before .before .before .before .before .before .before .before .before .args .sum .now) (c .before .before .before .before .before .before .before .before .before .loop .i) (omega (arith, c .before .before .before .before .before .before .before .before .before .before .before .before .before .pre .1 .long))),
+  omega (arith, c .before .before .xor4-at .kept),
+)
 
 same-length : tie.Need-same-length Inv-loop μ-loop
 same-length c = search needs

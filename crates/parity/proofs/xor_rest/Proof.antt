@@ -39,11 +39,11 @@ loop-less c = search needs
 
 loop-again : tie.Need-loop-again Inv-loop μ-loop
 loop-again c = (
-      omega arith,
-      rw (c .before .before .xor-at .ensures, c .before .before .before .before .before .before .loop .inv .1) (rest-row (c .before .before .before .before .before .before .before .before .before .before .args .media .now) (c .before .before .before .before .before .before .before .before .before .before .args .rows .now) (c .before .before .before .before .before .before .before .before .before .before .args .at) (c .before .before .before .before .before .before .before .before .before .before .args .p) (c .before .before .before .before .before .before .before .before .before .before .args .sum .now) (c .before .before .before .before .before .before .before .before .before .before .args .from) (c .before .before .before .before .before .before .loop .i) (omega arith) (omega (arith, c .before .before .before .before .before .before .before .before .before .before .pre .2 .long))),
-      omega (arith, c .before .before .xor-at .kept),
-      omega arith,
-    )
+  omega arith,
+  rw (c .before .before .xor-at .ensures, c .before .before .before .before .before .before .loop .inv .1) (rest-row (c .before .before .before .before .before .before .before .before .before .before .args .media .now) (c .before .before .before .before .before .before .before .before .before .before .args .rows .now) (c .before .before .before .before .before .before .before .before .before .before .args .at) (c .before .before .before .before .before .before .before .before .before .before .args .p) (c .before .before .before .before .before .before .before .before .before .before .args .sum .now) (c .before .before .before .before .before .before .before .before .before .before .args .from) (c .before .before .before .before .before .before .loop .i) (omega arith) (omega (arith, c .before .before .before .before .before .before .before .before .before .before .pre .2 .long))),
+  omega (arith, c .before .before .xor-at .kept),
+  omega arith,
+)
 
 same-length : tie.Need-same-length Inv-loop μ-loop
 same-length c = search needs

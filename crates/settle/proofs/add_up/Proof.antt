@@ -44,13 +44,13 @@ same-length : tie.Need-same-length
 same-length c = search needs
 
 returns : tie.Need-returns
-returns c = 
+returns c =
     let e = held (c .before .before .before .before .before .before .before .before .before .before .before .before .before .before .before .before .args .w .base) (c .before .before .before .before .before .before .before .before .before .before .before .before .before .before .before .before .args .w .l) (c .before .before .before .before .before .before .before .before .before .before .before .before .before .before .before .before .args .w .d) (c .before .before .before .before .before .before .before .before .before .before .before .before .before .before .before .before .args .stream) (c .before .before .before .before .before .before .before .before .before .before .before .before .before .before .before .before .args .start) (c .before .before .before .before .before .before .before .before .before .before .before .before .before .before .before .before .args .w .n) (c .before .before .before .before .before .before .before .before .before .before .before .position .result) (c .before .before .before .before .before .before .before .before .before .before .offset-of .result) (c .before .before .before .before .before .before .before .before .before .na-of .result) (omega (arith, c .before .before .before .before .before .before .before .before .before .before .before .before .before .before .before .before .good)) (c .before .before .before .before .before .before .before .before .before .before .before .before .before .before .before .before .pre .0 .profile) (c .before .before .before .before .before .before .before .before .before .before .before .before .before .before .before .before .pre .0 .n-high) (c .before .before .before .before .before .before .before .before .before .before .before .before .before .before .before .before .pre .1) (c .before .before .before .before .before .before .before .before .before .before .before .position .ensures) (c .before .before .before .before .before .before .before .before .before .before .offset-of .ensures) (c .before .before .before .before .before .before .before .before .before .na-of .ensures) (c .before .before .before .before .before .before .before .before .before .before .before .before .before .before .before .before .args .marks .now) (c .before .before .before .before .before .before .before .before .members-present .result .rows) (c .before .before .before .before .before .before .before .before .members-present .result .n) (c .before .before .before .before .before .before .before .before .members-present .ensures .0) (c .before .before .before .before .before .before .before .before .members-present .ensures .1) (c .before .before .before .before .before .before .before .before .members-present .ensures .2) in
     let b = held-below (c .before .before .before .before .before .before .before .before .before .before .before .before .before .before .before .before .args .w .base) (c .before .before .before .before .before .before .before .before .before .before .before .before .before .before .before .before .args .w .l) (c .before .before .before .before .before .before .before .before .before .before .before .before .before .before .before .before .args .w .d) (c .before .before .before .before .before .before .before .before .before .before .before .before .before .before .before .before .args .stream) (c .before .before .before .before .before .before .before .before .before .before .before .before .before .before .before .before .args .start) (c .before .before .before .before .before .before .before .before .before .before .before .before .before .before .before .before .args .w .n) (c .before .before .before .before .before .before .before .before .before .before .before .position .result) (c .before .before .before .before .before .before .before .before .before .before .offset-of .result) (c .before .before .before .before .before .before .before .before .before .na-of .result) (omega (arith, c .before .before .before .before .before .before .before .before .before .before .before .before .before .before .before .before .good)) (c .before .before .before .before .before .before .before .before .before .before .before .before .before .before .before .before .pre .0 .profile) (c .before .before .before .before .before .before .before .before .before .before .before .before .before .before .before .before .pre .0 .n-high) (c .before .before .before .before .before .before .before .before .before .before .before .before .before .before .before .before .pre .1) (c .before .before .before .before .before .before .before .before .before .before .before .position .ensures) (c .before .before .before .before .before .before .before .before .before .before .offset-of .ensures) (c .before .before .before .before .before .before .before .before .before .na-of .ensures) (c .before .before .before .before .before .before .before .before .before .before .before .before .before .before .before .before .args .marks .now) (c .before .before .before .before .before .before .before .before .members-present .result .rows) (c .before .before .before .before .before .before .before .before .members-present .result .n) (c .before .before .before .before .before .before .before .before .members-present .ensures .0) (c .before .before .before .before .before .before .before .before .members-present .ensures .1) (c .before .before .before .before .before .before .before .before .members-present .ensures .2) in (
       c .xor-timestamps .ensures ∙ ap (λ (l : List ℕ). bitXor (c .before .before .before .before .before .before .before .before .before .before .before .before .before .before .before .before .args .stamps) (xorAll (map (λ i. getD (c .before .before .before .before .before .before .before .before .before .before .before .before .before .before .before .before .args .timestamps .now) i 0) l))) e,
       c .before .before .before .before .xor-rows .ensures
-      ∙ rows-sum (c .before .before .before .before .before .before .before .before .before .before .before .before .before .before .before .before .args .w .p) (c .before .before .before .before .before .before .before .before .before .before .before .before .before .before .before .before .args .media .now) (c .before .before .before .before .before .before .before .before .before .before .before .before .before .before .before .before .args .to) (c .before .before .before .before .before .before .before .before .before .before .before .before .before .before .before .before .args .sum .now) (c .before .before .before .before .before .before .before .before .before .before .before .before .before .before .before .before .pre .2) (take (c .before .before .before .before .before .before .before .before .members-present .result .n) (c .before .before .before .before .before .before .before .before .members-present .result .rows)) (below-ends (c .before .before .before .before .before .before .before .before .before .before .before .before .before .before .before .before .args .w .n) (c .before .before .before .before .before .before .before .before .before .before .before .before .before .before .before .before .args .w .p) (c .before .before .before .before .before .before .before .before .before .before .before .before .before .before .before .before .args .media .now) (c .before .before .before .before .before .before .before .before .before .before .before .before .before .before .before .before .pre .3) (take (c .before .before .before .before .before .before .before .before .members-present .result .n) (c .before .before .before .before .before .before .before .before .members-present .result .rows)) b)
-      ∙ ap (λ (l : List ℕ). paste (c .before .before .before .before .before .before .before .before .before .before .before .before .before .before .before .before .args .sum .now) (c .before .before .before .before .before .before .before .before .before .before .before .before .before .before .before .before .args .to) (zipXor (drop (c .before .before .before .before .before .before .before .before .before .before .before .before .before .before .before .before .args .to) (c .before .before .before .before .before .before .before .before .before .before .before .before .before .before .before .before .args .sum .now)) (xorPayloads (c .before .before .before .before .before .before .before .before .before .before .before .before .before .before .before .before .args .w .p) (map (rowAt (c .before .before .before .before .before .before .before .before .before .before .before .before .before .before .before .before .args .w .p) (c .before .before .before .before .before .before .before .before .before .before .before .before .before .before .before .before .args .media .now)) l))) (c .before .before .before .before .before .before .before .before .before .before .before .before .before .before .before .before .args .w .p)) e,
+          ∙ rows-sum (c .before .before .before .before .before .before .before .before .before .before .before .before .before .before .before .before .args .w .p) (c .before .before .before .before .before .before .before .before .before .before .before .before .before .before .before .before .args .media .now) (c .before .before .before .before .before .before .before .before .before .before .before .before .before .before .before .before .args .to) (c .before .before .before .before .before .before .before .before .before .before .before .before .before .before .before .before .args .sum .now) (c .before .before .before .before .before .before .before .before .before .before .before .before .before .before .before .before .pre .2) (take (c .before .before .before .before .before .before .before .before .members-present .result .n) (c .before .before .before .before .before .before .before .before .members-present .result .rows)) (below-ends (c .before .before .before .before .before .before .before .before .before .before .before .before .before .before .before .before .args .w .n) (c .before .before .before .before .before .before .before .before .before .before .before .before .before .before .before .before .args .w .p) (c .before .before .before .before .before .before .before .before .before .before .before .before .before .before .before .before .args .media .now) (c .before .before .before .before .before .before .before .before .before .before .before .before .before .before .before .before .pre .3) (take (c .before .before .before .before .before .before .before .before .members-present .result .n) (c .before .before .before .before .before .before .before .before .members-present .result .rows)) b)
+          ∙ ap (λ (l : List ℕ). paste (c .before .before .before .before .before .before .before .before .before .before .before .before .before .before .before .before .args .sum .now) (c .before .before .before .before .before .before .before .before .before .before .before .before .before .before .before .before .args .to) (zipXor (drop (c .before .before .before .before .before .before .before .before .before .before .before .before .before .before .before .before .args .to) (c .before .before .before .before .before .before .before .before .before .before .before .before .before .before .before .before .args .sum .now)) (xorPayloads (c .before .before .before .before .before .before .before .before .before .before .before .before .before .before .before .before .args .w .p) (map (rowAt (c .before .before .before .before .before .before .before .before .before .before .before .before .before .before .before .before .args .w .p) (c .before .before .before .before .before .before .before .before .before .before .before .before .before .before .before .before .args .media .now)) l))) (c .before .before .before .before .before .before .before .before .before .before .before .before .before .before .before .before .args .w .p)) e,
     )
 
 pub add-up-spec : {M : Type 1} → statement M

@@ -46,10 +46,10 @@ loop-less c = search needs
 
 loop-again : tie.Need-loop-again Inv-loop μ-loop
 loop-again c = (
-      omega arith,
-      refl,
-      leads-more _ (c .before .before .before .before .before .before .before .before .before .before .before .args .w .k) (c .before .before .before .before .before .before .loop .r) (omega arith) (c .before .before .before .before .before .before .loop .best) (c .before .before .before .before .before .before .loop .inv .2) (c .better .result) (c .before .rank-of .result) (c .before .before .before .before .ready .result) (c .before .before .before .before .ready .ensures) (c .before .rank-of .ensures) (c .better .ensures),
-    )
+  omega arith,
+  refl,
+  leads-more _ (c .before .before .before .before .before .before .before .before .before .before .before .args .w .k) (c .before .before .before .before .before .before .loop .r) (omega arith) (c .before .before .before .before .before .before .loop .best) (c .before .before .before .before .before .before .loop .inv .2) (c .better .result) (c .before .rank-of .result) (c .before .before .before .before .ready .result) (c .before .before .before .before .ready .ensures) (c .before .rank-of .ensures) (c .better .ensures),
+)
 
 returns : tie.Need-returns Inv-loop μ-loop
 unfolding next

@@ -51,13 +51,13 @@ same-length-3 : tie.Need-same-length-3
 same-length-3 c = search needs
 
 returns : tie.Need-returns
-returns c = 
+returns c =
     let a = c .before .before .before .before .before .before .before .before .before .before .before .before .before .before .before .before .before .before .args in
     let w = a .w in
     let ends = kept-ends (w .base) (w .l) (w .d) (a .stream) (a .start) (w .n) (omega (arith, c .before .before .before .before .before .before .before .before .before .before .before .before .before .before .before .before .before .before .good)) (c .before .before .before .before .before .before .before .before .before .before .before .before .before .before .before .before .before .before .pre .0 .profile) (c .before .before .before .before .before .before .before .before .before .before .before .before .before .before .before .before .before .before .pre .0 .n-high) (c .before .before .before .before .before .before .before .before .before .before .before .before .before .before .before .before .before .before .pre .1) (marked (a .marks .now)) (w .p) (a .media .now) (c .before .before .before .before .before .before .before .before .before .before .before .before .before .before .before .before .before .before .pre .4) in (
       c .before .before .copy-at2 .ensures
-      ∙ through (w .p) (a .i * w .p) (a .from) (a .media .now) (a .marks .now) (groupOf (w .base) (w .l) (w .d) (a .stream) (a .start)) (a .recovery .now) (replicate 1428 0) (c .before .before .before .before .before .before .before .before .before .before .before .before .copy-at .last .0) (c .before .before .before .before .before .before .add-up .last .0) (c .before .before .before .before .before .before .before .before .before .before .before .before .before .before .before .before .before .before .pre .0 .p-high) (c .before .before .before .before .before .before .before .before .before .before .before .before .before .before .before .before .before .before .pre .3) ends
-      (c .before .before .before .before .before .before .before .before .before .before .before .before .copy-at .ensures) (c .before .before .before .before .before .before .add-up .ensures .1),
+          ∙ through (w .p) (a .i * w .p) (a .from) (a .media .now) (a .marks .now) (groupOf (w .base) (w .l) (w .d) (a .stream) (a .start)) (a .recovery .now) (replicate 1428 0) (c .before .before .before .before .before .before .before .before .before .before .before .before .copy-at .last .0) (c .before .before .before .before .before .before .add-up .last .0) (c .before .before .before .before .before .before .before .before .before .before .before .before .before .before .before .before .before .before .pre .0 .p-high) (c .before .before .before .before .before .before .before .before .before .before .before .before .before .before .before .before .before .before .pre .3) ends
+          (c .before .before .before .before .before .before .before .before .before .before .before .before .copy-at .ensures) (c .before .before .before .before .before .before .add-up .ensures .1),
       ap (set (a .timestamps .now) (a .i)) (c .before .before .before .before .before .before .add-up .ensures .0),
       refl,
     )

@@ -33,15 +33,15 @@ loop-less c = search needs
 
 loop-again : tie.Need-loop-again Inv-loop μ-loop
 loop-again c = (
-      omega arith,
-      refl,
-      λ m t b. c .before .before .before .before .before .before .before .before .before .before .release-one .ensures m t b ∙ ap (releaseSpent (c .before .before .before .before .before .before .before .before .before .before .before .before .before .before .before .before .before .loop .r)) (c .before .before .before .before .before .before .before .before .before .before .before .before .before .before .before .before .before .loop .inv .2 m t b) ∙ rw (add-one (c .before .before .before .before .before .before .before .before .before .before .before .before .before .before .before .before .before .loop .r)),
-      omega (arith, c .before .before .before .before .before .before .before .before .before .before .release-one .kept),
-      omega (arith, c .before .before .before .before .before .before .before .before .before .before .release-one .kept),
-      omega (arith, c .before .before .before .before .before .before .before .before .before .before .release-one .kept),
-      omega (arith, c .before .before .before .before .before .before .before .before .before .before .release-one .kept),
-      omega (arith, c .before .before .before .before .before .before .before .before .before .before .release-one .kept),
-    )
+  omega arith,
+  refl,
+  λ m t b. c .before .before .before .before .before .before .before .before .before .before .release-one .ensures m t b ∙ ap (releaseSpent (c .before .before .before .before .before .before .before .before .before .before .before .before .before .before .before .before .before .loop .r)) (c .before .before .before .before .before .before .before .before .before .before .before .before .before .before .before .before .before .loop .inv .2 m t b) ∙ rw (add-one (c .before .before .before .before .before .before .before .before .before .before .before .before .before .before .before .before .before .loop .r)),
+  omega (arith, c .before .before .before .before .before .before .before .before .before .before .release-one .kept),
+  omega (arith, c .before .before .before .before .before .before .before .before .before .before .release-one .kept),
+  omega (arith, c .before .before .before .before .before .before .before .before .before .before .release-one .kept),
+  omega (arith, c .before .before .before .before .before .before .before .before .before .before .release-one .kept),
+  omega (arith, c .before .before .before .before .before .before .before .before .before .before .release-one .kept),
+)
 
 same-length : tie.Need-same-length Inv-loop μ-loop
 same-length c = search needs
