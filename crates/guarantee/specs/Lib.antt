@@ -1,1 +1,17 @@
 pub mod Bench
+pub mod Demand3
+pub mod Ranges
+pub mod Packets
+pub mod View
+pub mod Changes
+pub mod Moves
+pub mod Rounds
+pub mod Order
+pub mod Accepted
+pub mod Wire
+pub mod Offers
+pub mod Fine
+pub mod Sent
+pub mod Theorem
+pub mod Waiting
+pub mod Night

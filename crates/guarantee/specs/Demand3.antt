@@ -1,0 +1,183 @@
+-- Demand 3 (document 00) in the words of document 01, "The words of demand 3", and over bytes: the statement alone. Theorem.antt proves it.
+use mathlib.Core.Path.{_≡_}
+use mathlib.Core.Logic.{_↔_, _≢_, _⊎_}
+use mathlib.Core.Bool.{Bool, true, false, cond, _&&_, _||_}
+use mathlib.Core.List.{List, [], _∷_, _++_, map, List·Memᴰ}
+use Prim.Native.Nat.{ℕ, _^_, _<_, _≤_}
+use lib.ListN.{length, getD}
+use lib.Dec.{eqb}
+use Rattle.answer.specs.declared.Answer.the-variants.{Done}
+use Rattle.sequence.specs.Lists.{count}
+use Rattle.sequence.specs.Wrap.{numberAt}
+use Rattle.rtp.specs.Rtp.{sequenceNumber, timestamp}
+use Rattle.rtp.specs.Fec.{column, row, snbase}
+use Rattle.rtp.specs.Faults.{noRow}
+use Rattle.window.specs.declared.Window.{Window}
+use Rattle.window.specs.Store.{Store, payloadAt, timestampAt}
+use Rattle.window.specs.Group.{width, group, inside}
+use Rattle.calls.specs.Datagram.{mediaPacket, Outer, parityPacket}
+use Rattle.calls.specs.Call.{Outcome, asked, opened, offeredMedia, offeredColumn, offeredRow}
+
+-- ---- "any list of offers (media, column parity, row parity, refused ones included)"
+
+-- the three ports
+pub data Port : Type 0 where
+  mediaPort columnPort rowPort : Port
+
+-- an offer: a datagram that comes in on a port
+pub record Offer : Type 0 where
+  pub port : Port
+  pub datagram : List ℕ
+
+-- the call for a port: the definition that its contract cites
+abbrev pub callOf : Port → Window → List ℕ → Store → Outcome
+callOf mediaPort = offeredMedia
+callOf columnPort = offeredColumn
+callOf rowPort = offeredRow
+
+-- what an offer gives back, and leaves in the store
+abbrev pub offered : Offer → Window → Store → Outcome
+offered o w s = callOf (o .port) w (o .datagram) s
+
+-- "each offer gets the window value and store the last call left", also where that one was refused
+unfoldable pub run : Outcome → List Offer → Outcome
+run x [] = x
+run x (o ∷ offers) = run (offered o (x .window) (x .store)) offers
+
+-- ---- "each an unaltered packet of one stretch as document 01 defines it, on its own port"
+
+-- a stretch: n media packets, one for each position, with any timestamp and P payload bytes
+pub record Stretch (w : Window) : Type 0 where
+  pub stamp : ℕ → ℕ
+  pub payload : ℕ → List ℕ
+  pub stamp-fits : (i : ℕ) → i < w .n → stamp i < 2 ^ 32
+  pub size : (i : ℕ) → i < w .n → length (payload i) ≡ w .p
+  pub bytes : (i : ℕ) → i < w .n → (b : ℕ) → List·Memᴰ b (payload i) → b < 256
+
+-- an unaltered media packet: the datagram of one of them, with its position's number; any SSRC will do
+pub record UnalteredMedia (w : Window) (t : Stretch w) (datagram : List ℕ) : Type 0 where
+  pub place : ℕ
+  pub ssrc : ℕ
+  pub in-window : place < w .n
+  pub ssrc-fits : ssrc < 2 ^ 32
+  pub is : datagram ≡ mediaPacket (numberAt width (w .base) place) (t .stamp place) ssrc (t .payload place)
+
+-- an unaltered parity packet: the datagram of a group of the stream, recovery taken over the stretch (a row only where L ≥ 4);
+-- "each group lies wholly inside the window"; any RTP sequence number, timestamp and SSRC will do
+pub record UnalteredParity (w : Window) (t : Stretch w) (stream : ℕ) (datagram : List ℕ) : Type 0 where
+  pub start : ℕ
+  pub outer : Outer
+  pub start-fits : start < 2 ^ 16
+  pub sequence-fits : outer .sequence < 2 ^ 16
+  pub timestamp-fits : outer .timestamp < 2 ^ 32
+  pub ssrc-fits : outer .ssrc < 2 ^ 32
+  pub permitted : noRow stream (w .l) ≡ false
+  pub in-window : inside w stream start ≡ true
+  pub is : datagram ≡ parityPacket outer stream (w .l) (w .d) (w .p) start (map (t .stamp) (group w stream start)) (map (t .payload) (group w stream start))
+
+-- an unaltered packet on its own port
+abbrev pub UnalteredOn : (w : Window) → Stretch w → Port → List ℕ → Type 0
+UnalteredOn w t mediaPort datagram = UnalteredMedia w t datagram
+UnalteredOn w t columnPort datagram = UnalteredParity w t column datagram
+UnalteredOn w t rowPort datagram = UnalteredParity w t row datagram
+
+-- an offer of an unaltered packet
+abbrev pub Unaltered : (w : Window) → Stretch w → Offer → Type 0
+Unaltered w t o = UnalteredOn w t (o .port) (o .datagram)
+
+-- ---- which packet an offer is, by its bytes; "two groups are the same if stream and SNBase are"
+
+-- a packet of the stretch: a media packet by its number, a parity packet by its group
+pub data Name : Type 0 where
+  mediaName : (number : ℕ) → Name
+  parityName : (stream start : ℕ) → Name
+
+-- the packet that a datagram on a port is
+abbrev pub nameOn : Port → List ℕ → Name
+nameOn mediaPort datagram = mediaName (sequenceNumber datagram)
+nameOn columnPort datagram = parityName column (snbase datagram)
+nameOn rowPort datagram = parityName row (snbase datagram)
+
+-- the packet that an offer is
+abbrev pub nameOf : Offer → Name
+nameOf o = nameOn (o .port) (o .datagram)
+
+-- "a packet is received if it's in the list, whatever its offer answered"
+abbrev pub Received : List Offer → Name → Type 0
+Received offers x = List·Memᴰ x (map nameOf offers)
+
+-- ---- "the different groups are no more than there is parity room"
+
+-- the group of a parity packet; a media packet has none
+abbrev pub groupNamed : Name → List (ℕ × ℕ)
+groupNamed (mediaName number) = []
+groupNamed (parityName stream start) = (stream, start) ∷ []
+
+-- the groups of the parity packets of a list
+abbrev pub groupsOf : List Offer → List (ℕ × ℕ)
+groupsOf [] = []
+groupsOf (o ∷ offers) = groupNamed (nameOf o) ++ groupsOf offers
+
+-- whether a group is in a list
+abbrev pub listed : ℕ × ℕ → List (ℕ × ℕ) → Bool
+listed k [] = false
+listed k (x ∷ l) = eqb (k .0) (x .0) && eqb (k .1) (x .1) || listed k l
+
+-- each element once
+unfoldable pub different : List (ℕ × ℕ) → List (ℕ × ℕ)
+different [] = []
+different (x ∷ l) = cond (listed x l) (different l) (x ∷ different l)
+
+-- the different groups of the parity packets of a list
+abbrev pub distinctGroups : List Offer → List (ℕ × ℕ)
+distinctGroups offers = different (groupsOf offers)
+
+-- ---- "the list starts on a freshly opened window that the stretch fills"
+
+-- what is given: an opening that answered 0, and a list of unaltered packets of no more groups than there are records
+pub record Given (w : Window) (lent : Store) (t : Stretch w) (offers : List Offer) : Type 0 where
+  pub base-fits : w .base < 2 ^ 16
+  pub fresh : opened w lent .answer ≡ Done 0
+  pub unaltered : (o : Offer) → List·Memᴰ o offers → Unaltered w t o
+  pub room : length (distinctGroups offers) ≤ w .k
+
+-- ---- "after every such list this holds"
+
+-- the mark of a position: 1 where its packet is present, 0 where it is missing
+abbrev pub markAt : Store → ℕ → ℕ
+markAt s i = getD (s .marks) i 0
+
+-- "some set of the stretch's media packets, none of them received, of which no received parity packet covers exactly one"
+pub record Hidden (w : Window) (offers : List Offer) (S : ℕ → Bool) : Type 0 where
+  pub of-stretch : (i : ℕ) → S i ≡ true → i < w .n
+  pub unreceived : (i : ℕ) → S i ≡ true → ¬ Received offers (mediaName (numberAt width (w .base) i))
+  pub never-one : (stream start : ℕ) → Received offers (parityName stream start) → count S (group w stream start) ≢ 1
+
+-- "every packet present equals the one sent in number, timestamp and payload; a packet is missing exactly when it belongs to such a set"
+pub record Demand3 (w : Window) (t : Stretch w) (offers : List Offer) (s : Store) : Type 0 where
+  pub mark : (i : ℕ) → i < w .n → (markAt s i ≡ 0) ⊎ (markAt s i ≡ 1)
+  pub present : (i : ℕ) → i < w .n → markAt s i ≡ 1 → (timestampAt s i ≡ t .stamp i) × (payloadAt w s i ≡ t .payload i)
+  pub missing : (i : ℕ) → i < w .n → (markAt s i ≡ 0) ↔ ((S : ℕ → Bool) × Hidden w offers S × (S i ≡ true))
+
+-- ---- the claims, proved in Theorem.antt: demand3 and demand3-same
+
+-- demand 3 of any list on any freshly opened window
+abbrev pub Claim : Type 0
+Claim =
+    (base ssrc l d p n k : ℕ) (lent : Store) (t : Stretch (asked base ssrc l d p n k)) (offers : List Offer)
+    → Given (asked base ssrc l d p n k) lent t offers
+    → Demand3 (asked base ssrc l d p n k) t offers (run (opened (asked base ssrc l d p n k) lent) offers .store)
+
+-- "two such lists of the same packets, in whatever orders and with whatever repeats"
+abbrev pub SamePackets : List Offer → List Offer → Type 0
+SamePackets offers others = (x : Name) → Received offers x ↔ Received others x
+
+-- "from windows opened with the same numbers, leave the same packets present"; each list has its stretch, which may be the same
+abbrev pub ClaimSame : Type 0
+ClaimSame =
+    (base ssrc l d p n k : ℕ) (lent other : Store) (t u : Stretch (asked base ssrc l d p n k)) (offers others : List Offer)
+    → Given (asked base ssrc l d p n k) lent t offers
+    → Given (asked base ssrc l d p n k) other u others
+    → SamePackets offers others
+    → (i : ℕ) → i < n
+    → markAt (run (opened (asked base ssrc l d p n k) lent) offers .store) i ≡ markAt (run (opened (asked base ssrc l d p n k) other) others .store) i

@@ -1,0 +1,282 @@
+-- Settling (receiver's Settle.antt) as steps of the theory: it leaves the store in order and no check with exactly one member missing.
+use mathlib.Core.Path.{_≡_, refl, sym, ap, _∙_, subst}
+use mathlib.Core.Logic.{_≢_, _⊎_, inl, inr, ⊎-elim}
+use mathlib.Core.Bool.{Bool, true, false, cond, _&&_, true≢false}
+use mathlib.Core.Option.{Option, none, some}
+use mathlib.Core.List.{List}
+use Prim.Native.Nat.{ℕ, zero, suc, _+_, _-_, _<_, _≤_}
+use native.Mathlib.Decide.{ℕ-discrete}
+use native.Mathlib.Omega.{arith}
+use lib.ListN.{length}
+use lib.Dec.{eqb, ltb}
+use borrow.Author.Tests.{eqb-true, eqb-false, eq-eqb}
+use Rattle.sequence.specs.Lists.{headOr}
+use Rattle.window.specs.declared.Window.{Window}
+use Rattle.window.specs.Store.{Store, streamAt, snbaseAt, recoveryAt, parityAt}
+use Rattle.window.specs.Group.{missing}
+use Rattle.window.specs.Order.{inUse, groupAt}
+use Rattle.settle.specs.State.{State, Recovery, recount, rebuild, release}
+use Rattle.settle.specs.Settle.{lack, ready, rank, better, nextBelow, next, releaseSpent, releaseBelow, releaseAll, rebuildBy, roundBy, round}
+use Rattle.calls.specs.Call.{both}
+use Rattle.peel.specs.Group.{count-none}
+use Rattle.peel.specs.Peel.{gone, miss, Steps, stop, go-on}
+use Rattle.peel.specs.Rest.{Still, rounds, steps-then, still-steps}
+use Rattle.guarantee.specs.Packets.{xored, blank, part-fits, length-part}
+use Rattle.guarantee.specs.View.{member-lt, Held, view, groupOf, miss-count, Good, Lacks, held-count}
+use Rattle.guarantee.specs.Changes.{put-good, record-stream, record-start, record-use}
+use Rattle.guarantee.specs.Moves.{single, Solved, solved, newStamp, newPayload, rebuiltIn, rebuild-full, step-rebuild, zeros, zeros-size, freed, freed-other, freed-fewer, freed-good, step-free}
+
+-- a state whose window value has a given window's set-up numbers
+abbrev pub at : Window → (a u : ℕ) → Store → (c : ℕ) → State
+at w a u s c = record { window = recount w a u; store = s; rebuilt = c }
+
+-- nothing is not something
+none-some : {A : Type 0} {x : A} → _≡_ {A = Option A} none (some x) → ⊥
+none-some e = true≢false (ap gone e)
+
+-- ---- the record that rebuilds next
+
+-- record r is ready and below m
+pub record Picked (x : State) (m r : ℕ) : Type 0 where
+  pub below : r < m
+  pub is-ready : ready x r ≡ true
+
+-- the record that rebuilds next is ready
+pub picked : (x : State) (m r : ℕ) → nextBelow x m ≡ some r → Picked x m r
+picked x zero r e = absurd (none-some e)
+picked x (suc m) r e = go (nextBelow x m) refl (picked x m r) e
+  where
+    is-last : ready x m ≡ true → _≡_ {A = Option ℕ} (some m) (some r) → Picked x (suc m) r
+    is-last q h = let z : m ≡ r = cc in record { below = omega arith; is-ready = ap (ready x) (sym z) ∙ q }
+
+    go : (o : Option ℕ) → nextBelow x m ≡ o → (nextBelow x m ≡ some r → Picked x m r) → better x m o ≡ some r → Picked x (suc m) r
+    go none q ih h = one (ready x m) refl h
+      where
+        one : (b : Bool) → ready x m ≡ b → cond b (some m) none ≡ some r → Picked x (suc m) r
+        one true z k = is-last z k
+        one false z k = absurd (none-some k)
+    go (some n) q ih h = two (ready x m) (ltb (rank x m) (rank x n)) refl h
+      where
+        old : _≡_ {A = Option ℕ} (some n) (some r) → Picked x (suc m) r
+        old k = let p = ih (q ∙ k) in record { below = omega (arith, p .below); is-ready = p .is-ready }
+
+        two : (b c : Bool) → ready x m ≡ b → cond (b && c) (some m) (some n) ≡ some r → Picked x (suc m) r
+        two true true z k = is-last z k
+        two true false z k = old k
+        two false c z k = old k
+
+-- where there is none, no record is ready
+pub unpicked : (x : State) (m : ℕ) → nextBelow x m ≡ none → (r : ℕ) → r < m → ready x r ≡ false
+unpicked x zero e r h = absurd (omega arith)
+unpicked x (suc m) e r h = go (nextBelow x m) refl (unpicked x m) e
+  where
+    go : (o : Option ℕ) → nextBelow x m ≡ o → (nextBelow x m ≡ none → (q : ℕ) → q < m → ready x q ≡ false) → better x m o ≡ none → ready x r ≡ false
+    go none q ih k = one (ready x m) refl k
+      where
+        one : (b : Bool) → ready x m ≡ b → cond b (some m) none ≡ none → ready x r ≡ false
+        one true z j = absurd (none-some (sym j))
+        one false z j = last (ℕ-discrete r m)
+          where
+            last : Dec (r ≡ m) → ready x r ≡ false
+            last (yes c) = ap (ready x) c ∙ z
+            last (no c) = ih q r (omega arith)
+    go (some n) q ih k = absurd (two (ready x m && ltb (rank x m) (rank x n)) k)
+      where
+        two : (b : Bool) → cond b (some m) (some n) ≡ none → ⊥
+        two true j = none-some (sym j)
+        two false j = none-some (sym j)
+
+-- ---- what is spent is released
+
+-- the state after the first m records with none missing were released
+pub record Freed (w : Window) (a u : ℕ) (s : Store) (c m : ℕ) (y : State) : Type 1 where
+  pub used : ℕ
+  pub store : Store
+  pub is : y ≡ at w a used store c
+  pub good : Good w a used store
+  pub steps : Steps (groupOf w) xored blank (view w s) (view w store)
+  pub spent : ((store ≡ s) × (used ≡ u)) ⊎ (used < u)
+  pub lacks : (r : ℕ) → r < m → inUse store r ≡ true → 1 ≤ length (missing store (groupAt w store r))
+
+module _ {w : Window} {a u : ℕ} {s : Store} (G : Good w a u s) (c : ℕ) where
+  -- one record more
+  free-one : (m : ℕ) → m < w .k → (y : State) → Freed w a u s c m y → Freed w a u s c (suc m) (releaseSpent m y)
+  free-one m hm y f = rw (f .is) (go (inUse t m) (eqb (length (missing t (groupAt w t m))) 0) refl refl)
+    where
+      t : Store
+      t = f .store
+
+      x : State
+      x = at w a (f .used) t c
+
+      -- it was not to be released
+      stays : (inUse t m ≡ true → 1 ≤ length (missing t (groupAt w t m))) → Freed w a u s c (suc m) x
+      stays h = record {
+        used = f .used;
+        store = t;
+        is = refl;
+        good = f .good;
+        steps = f .steps;
+        spent = f .spent;
+        lacks = λ r l e. last r l e (ℕ-discrete r m);
+      }
+        where
+          last : (r : ℕ) → r < suc m → inUse t r ≡ true → Dec (r ≡ m) → 1 ≤ length (missing t (groupAt w t r))
+          last r l e (yes z) = rw z (h (ap (inUse t) (sym z) ∙ e))
+          last r l e (no z) = f .lacks r (omega arith) e
+
+      go : (b d : Bool) → inUse t m ≡ b → eqb (length (missing t (groupAt w t m))) 0 ≡ d → Freed w a u s c (suc m) (cond (b && d) (release m x) x)
+      go false d p q = stays (λ e. absurd (true≢false (sym e ∙ p)))
+      go true false p q = stays (λ e. let z = eqb-false (length (missing t (groupAt w t m))) 0 q in omega arith)
+      go true true p q = record {
+        used = f .used - 1;
+        store = freed w t m;
+        is = refl;
+        good = freed-good (f .good) m hm p;
+        steps = steps-then (groupOf w) xored blank (f .steps) (go-on (step-free (f .good) m hm p (eqb-true (length (missing t (groupAt w t m))) 0 q)) stop);
+        spent = inr (⊎-elim (λ z. let l = freed-fewer (f .good) m hm p in omega (arith, z .1)) (λ z. let l = freed-fewer (f .good) m hm p in omega arith) (f .spent));
+        lacks = λ r l e. let n = freed-other (f .good) m hm p r e in old r l e n;
+      }
+        where
+          old : (r : ℕ) → r < suc m → inUse (freed w t m) r ≡ true → r ≢ m → 1 ≤ length (missing (freed w t m) (groupAt w (freed w t m) r))
+          old r l e n =
+              rw (record-stream (f .good) m 0 0 0 (zeros w) hm (zeros-size w) r n, record-start (f .good) m 0 0 0 (zeros w) hm (zeros-size w) r n)
+              (f .lacks r (omega arith) (sym (record-use (f .good) m 0 0 0 (zeros w) hm (zeros-size w) r n) ∙ e))
+
+  -- the first m records
+  pub free-below : (m : ℕ) → m ≤ w .k → Freed w a u s c m (releaseBelow m (at w a u s c))
+  free-below zero h = record { used = u; store = s; is = refl; good = G; steps = stop; spent = inl (refl, refl); lacks = λ r l e. absurd (omega arith) }
+  free-below (suc m) h = free-one m h (releaseBelow m (at w a u s c)) (free-below m (omega arith))
+
+-- a record in use with none missing is among those released
+spends : {w : Window} {a u : ℕ} {s : Store} {c m : ℕ} {y : State} (f : Freed w a u s c m y) (r : ℕ) → r < m → inUse s r ≡ true
+    → length (missing s (groupAt w s r)) ≡ 0 → f .used < u
+spends {w} {s = s} f r h used empty =
+    ⊎-elim (λ z. absurd (let b : 1 ≤ length (missing s (groupAt w s r)) = subst (λ t. 1 ≤ length (missing t (groupAt w t r))) (z .0) (f .lacks r h (ap (λ t. inUse t r) (z .0) ∙ used)) in omega arith)) (λ z. z) (f .spent)
+
+-- ---- rounds
+
+-- the state after some rounds: the store in order, each check lacks something, and the packets present rose by what was rebuilt
+pub record After (w : Window) (a : ℕ) (s : Store) (c : ℕ) (y : State) : Type 1 where
+  pub present : ℕ
+  pub used : ℕ
+  pub store : Store
+  pub count : ℕ
+  pub is : y ≡ at w present used store count
+  pub good : Good w present used store
+  pub lacks : Lacks 1 w store
+  pub steps : Steps (groupOf w) xored blank (view w s) (view w store)
+  pub rise : present + c ≡ a + count
+
+-- no round: all stays as it is
+unmoved : {w : Window} {a u : ℕ} {s : Store} {c : ℕ} → Good w a u s → Lacks 1 w s → After w a s c (at w a u s c)
+unmoved {a = a} {u} {s} {c} G k = record { present = a; used = u; store = s; count = c; is = refl; good = G; lacks = k; steps = stop; rise = refl }
+
+-- one round: a number of steps, and a record fewer in use unless the receiver is at rest
+pub record Round (w : Window) (a u : ℕ) (s : Store) (c : ℕ) (y : State) : Type 1 where
+  pub after : After w a s c y
+  pub work : Still (groupOf w) (view w s) ⊎ (after .used < u)
+
+-- n rounds: as many as records are in use, or more, bring the receiver to rest
+pub record Rounds (w : Window) (n a u : ℕ) (s : Store) (c : ℕ) (y : State) : Type 1 where
+  pub after : After w a s c y
+  pub rest : u ≤ n → Still (groupOf w) (view w (after .store))
+
+-- no record is ready, so no check in hand lacks exactly one
+at-rest : {w : Window} {a u : ℕ} {s : Store} (c : ℕ) → Good w a u s → next (at w a u s c) ≡ none → Still (groupOf w) (view w s)
+unfolding next
+at-rest {w} {a} {u} {s} c G e k v h one =
+    true≢false (sym (is-ready (h .at) (h .used) (sym (held-count G h) ∙ one)) ∙ unpicked (at w a u s c) (w .k) e (h .at) (h .below))
+  where
+    is-ready : (r : ℕ) → inUse s r ≡ true → length (missing s (groupAt w s r)) ≡ 1 → ready (at w a u s c) r ≡ true
+    is-ready r p q = rw (p, eq-eqb (length (missing s (groupAt w s r))) 1 q)
+
+-- record r, which lacks one, rebuilds that, and what is spent is released
+module _ {w : Window} {a u : ℕ} {s : Store} (G : Good w a u s) (r : ℕ) (hr : r < w .k) (used : inUse s r ≡ true) (one : length (missing s (groupAt w s r)) ≡ 1) where
+  -- that is a round
+  round-by : (c : ℕ) → Round w a u s c (releaseAll (rebuildBy r (at w a u s c)))
+  unfolding releaseAll rebuild
+  round-by c = record {
+    after = record {
+      present = a + 1;
+      used = f .used;
+      store = f .store;
+      count = c + 1;
+      is = f .is;
+      good = f .good;
+      lacks = record { lacks = f .lacks };
+      steps = go-on (step-rebuild G k v i q (Held w s)
+          (record { at = r; below = hr; used = used; stream = refl; start = refl; value = refl }) (λ l x h. h) (λ l x h. inl h)) (f .steps);
+      rise = omega arith;
+    };
+    work = inr (spends f r hr used empty);
+  }
+    where
+      k : ℕ × ℕ
+      k = (streamAt s r, snbaseAt s r)
+
+      g : List ℕ
+      g = groupAt w s r
+
+      v : Recovery
+      v = record { stamps = recoveryAt s r; payload = parityAt w s r }
+
+      size : length (v .payload) ≡ w .p
+      size = let z = part-fits r (w .k) (w .p) hr in length-part (s .parity) r (w .p) (omega (arith, G .fits .parity-long))
+
+      i : ℕ
+      i = headOr 0 (missing s g)
+
+      q : Solved w s g v i
+      q = solved G g (member-lt (G .shaped r hr used)) v size i (single (missing s g) one)
+
+      t : Store
+      t = rebuiltIn w s g v i
+
+      f : Freed w (a + 1) u t (c + 1) (w .k) (releaseBelow (w .k) (at w (a + 1) u t (c + 1)))
+      f = free-below (put-good G i (newStamp s g v) (newPayload w s g v) (q .below) (q .size) (q .empty)) (c + 1) (w .k) (omega arith)
+
+      empty : length (missing t (groupAt w t r)) ≡ 0
+      empty = sym (miss-count w t g (member-lt (G .shaped r hr used))) ∙ count-none (miss (view w t)) g (rebuild-full G k v i q)
+
+-- a round from a store in order
+pub one-round : {w : Window} {a u : ℕ} {s : Store} (c : ℕ) → Good w a u s → Lacks 1 w s → Round w a u s c (round (at w a u s c))
+unfolding round next
+one-round {w} {a} {u} {s} c G k = go (next (at w a u s c)) refl
+  where
+    x : State
+    x = at w a u s c
+
+    go : (o : Option ℕ) → next x ≡ o → Round w a u s c (roundBy o x)
+    go none e = record { after = unmoved G k; work = inl (at-rest c G e) }
+    go (some r) e =
+        let p = picked x (w .k) r e in
+        let b = both (inUse s r) (eqb (lack x r) 1) (p .is-ready) in
+        round-by G r (p .below) (b .0) (eqb-true (lack x r) 1 (b .1)) c
+
+-- a round and n more
+and-more : {w : Window} {n a u : ℕ} {s : Store} {c : ℕ} {y z : State} (r : Round w a u s c y)
+    → Rounds w n (r .after .present) (r .after .used) (r .after .store) (r .after .count) z → Rounds w (suc n) a u s c z
+and-more {w} r q = record {
+  after = record {
+    present = q .after .present;
+    used = q .after .used;
+    store = q .after .store;
+    count = q .after .count;
+    is = q .after .is;
+    good = q .after .good;
+    lacks = q .after .lacks;
+    steps = steps-then (groupOf w) xored blank (r .after .steps) (q .after .steps);
+    rise = omega (arith, r .after .rise, q .after .rise);
+  };
+  rest = λ h. ⊎-elim (λ z. still-steps (groupOf w) xored blank (still-steps (groupOf w) xored blank z (r .after .steps)) (q .after .steps)) (λ l. q .rest (omega arith)) (r .work);
+}
+
+-- n rounds from a store in order
+pub all-rounds : {w : Window} (n : ℕ) {a u : ℕ} {s : Store} (c : ℕ) → Good w a u s → Lacks 1 w s → Rounds w n a u s c (rounds round n (at w a u s c))
+unfolding rounds unmoved
+all-rounds zero c G k = record { after = unmoved G k; rest = λ h. ⊎-elim (λ z. z) (λ l. absurd (omega arith)) (one-round c G k .work) }
+all-rounds {w} (suc n) c G k =
+    let r = one-round c G k in
+    let f = r .after in
+    and-more r (subst (Rounds w n (f .present) (f .used) (f .store) (f .count)) (ap (rounds round n) (sym (f .is))) (all-rounds n (f .count) (f .good) (f .lacks)))
