@@ -46,3 +46,15 @@ unfolding first
 first-none [] n e = tt
 first-none ((k, false) ∷ ts) n e = (refl, first-none ts (n .1) e)
 first-none ((k, true) ∷ ts) n e = absurd (let h = ltb→lt 0 k (n .0) in omega arith)
+
+-- ---- laws: of two lists of tests
+-- where a test of the first applies, it decides
+pub first-stops : (ts us : List (ℕ × Bool)) → (first ts ≡ 0 → ⊥) → first ts ≡ first (ts ++ us)
+unfolding first
+first-stops [] us h = absurd (h refl)
+first-stops ((k, true) ∷ ts) us h = refl
+first-stops ((k, false) ∷ ts) us h = first-stops ts us h
+
+-- where none does, the second decides
+pub first-goes : (ts us : List (ℕ × Bool)) → Numbered ts → first ts ≡ 0 → first us ≡ first (ts ++ us)
+first-goes ts us n e = sym (first-append ts us (first-none ts n e))

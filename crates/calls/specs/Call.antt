@@ -1,11 +1,10 @@
 -- The calls: from the window value, the datagram and the lent store to answer, next window value and next store.
-use mathlib.Core.Path.{_≡_, refl, ap₂}
-use mathlib.Core.Bool.{Bool, true, false, cond, not, _&&_, _||_, false≢true}
+use mathlib.Core.Bool.{Bool, true, false, cond, not, _&&_, _||_}
 use mathlib.Core.List.{List, [], _∷_, _++_, map}
 use Prim.Native.Nat.{ℕ, _+_, _*_}
 use lib.Dec.{eqb, ltb}
 use lib.ListN.{length, drop}
-use borrow.Author.Tests.{eqb-true}
+pub use Rattle.xor.specs.Same.{same}
 use Rattle.answer.specs.declared.Answer.{Answer}
 use Rattle.answer.specs.declared.Answer.the-variants.{Done, Refused}
 use Rattle.answer.specs.First.{first}
@@ -34,23 +33,6 @@ pub record Written : Type 0 where
   pub answer : Answer
   pub window : Window
   pub out : List ℕ
-
--- the same list
-abbrev pub same : List ℕ → List ℕ → Bool
-same [] [] = true
-same [] (b ∷ t) = false
-same (a ∷ s) [] = false
-same (a ∷ s) (b ∷ t) = eqb a b && same s t
-
-pub both : (a b : Bool) → (a && b) ≡ true → (a ≡ true) × (b ≡ true)
-both true b e = (refl, e)
-both false b e = absurd (false≢true e)
-
-pub same-eq : (s t : List ℕ) → same s t ≡ true → s ≡ t
-same-eq [] [] e = refl
-same-eq [] (b ∷ t) e = absurd (false≢true e)
-same-eq (a ∷ s) [] e = absurd (false≢true e)
-same-eq (a ∷ s) (b ∷ t) e = let h = both (eqb a b) (same s t) e in ap₂ _∷_ (eqb-true a b (h .0)) (same-eq s t (h .1))
 
 -- ---- opening (01, "Setting up a window")
 

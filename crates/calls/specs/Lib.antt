@@ -1,3 +1,4 @@
 pub mod Datagram
 pub mod Accept
 pub mod Call
+pub mod Standing

@@ -9,6 +9,8 @@ use Rattle.answer.specs.Number.{numberOf, countOf}
 use Rattle.answer.specs.First.{first}
 use Rattle.peel.specs.Rest.{rounds}
 use Rattle.xor.specs.Xor.{xorAll}
+use Rattle.xor.specs.Same.{same, same-eq}
+use Rattle.sequence.specs.Lists.{and-split as both}
 use Rattle.sequence.specs.Wrap.{numberAt, members}
 use Rattle.rtp.specs.Fec.{column, row, fecHeader}
 use Rattle.window.specs.declared.Window.{Window}
@@ -18,7 +20,7 @@ use Rattle.window.specs.Order.{disorder}
 use Rattle.calls.specs.Datagram.{mediaPacket, Outer, parityPacket}
 use Rattle.settle.specs.State.{rebuild}
 use Rattle.settle.specs.Settle.{next, releaseAll, round, settle}
-use Rattle.calls.specs.Call.{Outcome, asked, opened, offeredMedia, offeredParity, same, same-eq, both}
+use Rattle.calls.specs.Call.{Outcome, asked, opened, offeredMedia, offeredParity}
 
 -- a case: its number, what the definitions give, and what the document says
 pub record Case : Type 0 where

@@ -22,7 +22,8 @@ use Rattle.window.specs.Group.{position, group, inside, lost, missing}
 use Rattle.window.specs.Order.{here, inUse}
 use Rattle.settle.specs.State.{recount}
 use Rattle.calls.specs.Accept.{mediaPayload}
-use Rattle.calls.specs.Call.{Outcome, both, same, standingTests, mediaPlaceTests, mediaOfferTests, holds, holdsSame, parityPlaceTests, parityOfferTests, refused, offeredMedia, offeredParity, cleared}
+use Rattle.sequence.specs.Lists.{and-split as both}
+use Rattle.calls.specs.Call.{Outcome, same, standingTests, mediaPlaceTests, mediaOfferTests, holds, holdsSame, parityPlaceTests, parityOfferTests, refused, offeredMedia, offeredParity, cleared}
 use Rattle.peel.specs.Peel.{Offer, media, check, Here, Inv, inv-start, inv-take}
 use Rattle.guarantee.specs.Ranges.{decide, any-some, upTo-lt, count-zero, Out, take-out, pigeon}
 use Rattle.guarantee.specs.Packets.{Packet, xored, blank}

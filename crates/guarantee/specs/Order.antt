@@ -17,7 +17,8 @@ use Rattle.window.specs.InOrder.{Waits, in-order, order-in}
 use Rattle.window.specs.Store.{Store, shortStore, streamAt, snbaseAt}
 use Rattle.window.specs.Order.{inUse, sameGroup, disorder}
 use Rattle.settle.specs.State.{recount}
-use Rattle.calls.specs.Call.{both, standingTests}
+use Rattle.sequence.specs.Lists.{and-split as both}
+use Rattle.calls.specs.Call.{standingTests}
 use Rattle.guarantee.specs.View.{Limits, Good, Lacks}
 
 -- refusals 1 to 3 do not apply

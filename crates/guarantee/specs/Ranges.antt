@@ -10,7 +10,7 @@ use native.Mathlib.Omega.{arith}
 use lib.ListN.{length, length-append}
 use lib.Dec.{eqb}
 use Rattle.sequence.specs.Lists.{or-split, upTo, all, any, keep, count, headOr}
-use Rattle.calls.specs.Call.{both}
+use Rattle.sequence.specs.Lists.{and-split as both}
 use Rattle.peel.specs.Group as Peel
 
 -- ---- tests

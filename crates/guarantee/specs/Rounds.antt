@@ -17,7 +17,7 @@ use Rattle.window.specs.Group.{missing}
 use Rattle.window.specs.Order.{inUse, groupAt}
 use Rattle.settle.specs.State.{State, Recovery, recount, rebuild, release}
 use Rattle.settle.specs.Settle.{lack, ready, rank, better, nextBelow, next, releaseSpent, releaseBelow, releaseAll, rebuildBy, roundBy, round}
-use Rattle.calls.specs.Call.{both}
+use Rattle.sequence.specs.Lists.{and-split as both}
 use Rattle.peel.specs.Group.{count-none}
 use Rattle.peel.specs.Peel.{gone, miss, Steps, stop, go-on}
 use Rattle.peel.specs.Rest.{Still, rounds, steps-then, still-steps}

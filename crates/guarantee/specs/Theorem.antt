@@ -16,7 +16,8 @@ use Rattle.window.specs.declared.Window.{Window}
 use Rattle.window.specs.Limits.{setUpTests}
 use Rattle.window.specs.Store.{Store, shortStore, payloadAt}
 use Rattle.window.specs.Group.{width, position, group, inside, lost}
-use Rattle.calls.specs.Call.{Outcome, both, noWindow, asked, cleared, openTests, opened}
+use Rattle.sequence.specs.Lists.{and-split as both}
+use Rattle.calls.specs.Call.{Outcome, noWindow, asked, cleared, openTests, opened}
 use Rattle.xor.specs.Laws.{packet}
 use Rattle.peel.specs.Peel as Theory
 use Rattle.peel.specs.Rest.{Still}

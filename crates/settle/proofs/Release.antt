@@ -1,7 +1,7 @@
 -- The ways through a release, and what it leaves of the records in use. Assumes nothing.
 use mathlib.Core.Path.{_≡_, refl, sym, ap, _∙_}
 use mathlib.Core.Bool.{Bool, true, false, cond, _&&_}
-use mathlib.Core.List.{List, []}
+use mathlib.Core.List.{List}
 use Prim.Native.Nat.{ℕ, zero, suc, _*_, _<_, _≤_}
 use native.Mathlib.Omega.{arith}
 use lib.Dec.{eqb}
@@ -104,10 +104,10 @@ asked-one w v s b r h l =
     )
 
 -- after a rebuild, which changes the counts and the marks only, the records are as good as before
-pub kept-rebuilt : (w v : Window) (a b : ℕ) (media timestamps marks marks′ parity streams snbases recoveries uses : List ℕ)
+pub kept-rebuilt : (w v : Window) (a b : ℕ) (m t media timestamps marks marks′ parity streams snbases recoveries uses : List ℕ)
     → Kept w (scene w (stored media timestamps marks parity streams snbases recoveries uses) 0) → v ≡ recount w a b → length marks′ ≡ length marks
-    → Kept v (scene v (stored [] [] marks′ parity streams snbases recoveries uses) 0)
-kept-rebuilt w v a b media timestamps marks marks′ parity streams snbases recoveries uses h e l =
+    → Kept v (scene v (stored m t marks′ parity streams snbases recoveries uses) 0)
+kept-rebuilt w v a b m t media timestamps marks marks′ parity streams snbases recoveries uses h e l =
     record {
       same = refl;
       set-up = set-up-same w v a b e (h .set-up);

@@ -1,11 +1,14 @@
 -- A turn of a loop that writes a part of a slice byte by byte, and of one that xorParts parts of another into it. Assumes nothing.
-use mathlib.Core.Path.{_≡_, refl, sym, ap, _∙_}
+use mathlib.Core.Path.{_≡_, refl, sym, ap, ap₂, _∙_}
+use mathlib.Core.Bool.{_&&_}
 use mathlib.Core.List.{List, [], _∷_, _++_}
 use Prim.Native.Nat.{ℕ, suc, _+_, _<_, _≤_}
 use native.Mathlib.Numerals.{add-one}
 use native.Mathlib.Omega.{arith}
 use lib.ListN.{length, getD, set, take, drop, length-drop}
-use lib.Seq.{paste, paste-suc, getD-drop, getD-at, drop-cons, length-paste-head}
+use lib.Dec.{eqb}
+use Rattle.xor.specs.Same.{same, same-more}
+use lib.Seq.{take-suc, length-take-le, paste, paste-suc, getD-drop, getD-at, drop-cons, length-paste-head}
 use lib.Bits.{bitXor}
 use Rattle.xor.specs.Xor.{zipXor, xorAt, xorParts, getD-zip, le-zip, paste-xor}
 
@@ -71,3 +74,15 @@ module _ (s : List ℕ) (n : ℕ) where
         let long : n ≤ length z = le-parts fs (drop at d) f (le-drop at n d hd) in
         turn d at z j (bytes s fs j (getD (paste d at z j) (at + j) 0)) (omega arith) (omega arith)
         (ap (bytes s fs j) (getD-rest d at z j (omega arith) (omega arith) ∙ sym (getD-drop at d j 0)) ∙ sym (getD-parts fs (drop at d) j f (le-drop at n d hd) i))
+
+-- ---- comparing
+take-next : (s : List ℕ) (a i : ℕ) → a + i < length s → take (i + 1) (drop a s) ≡ take i (drop a s) ++ (getD s (a + i) 0 ∷ [])
+take-next s a i h = rw (add-one, ← getD-drop a s i 0) (take-suc (drop a s) i 0 (simp length-drop (omega arith)))
+
+pub same-turn : (s t : List ℕ) (a b i : ℕ) → a + i < length s → b + i < length t
+    → (same (take i (drop a s)) (take i (drop b t)) && eqb (getD s (a + i) 0) (getD t (b + i) 0)) ≡ same (take (i + 1) (drop a s)) (take (i + 1) (drop b t))
+same-turn s t a b i hs ht =
+    sym
+    (ap₂ same (take-next s a i hs) (take-next t b i ht)
+    ∙ same-more (take i (drop a s)) (take i (drop b t)) (getD s (a + i) 0) (getD t (b + i) 0)
+    (length-take-le i (drop a s) (simp length-drop (omega arith)) ∙ sym (length-take-le i (drop b t) (simp length-drop (omega arith)))))

@@ -1,9 +1,10 @@
-// Copies, clears and xors parts of byte slices. A part is named by the whole slice, where it begins and how long it is.
+// Copies, clears, xors and compares parts of byte slices. A part is named by the whole slice, where it begins and how long it is.
 ghost use mathlib.Core.Path.{_≡_};
 ghost use Prim.Native.Nat.{_+_, _≤_};
-ghost use lib.ListN.{length, drop, replicate};
+ghost use lib.ListN.{length, take, drop, replicate};
 ghost use lib.Seq.{paste};
 ghost use Rattle.xor.specs.Xor.{xorAt};
+ghost use Rattle.xor.specs.Same.{same};
 
 // Copies n bytes of src from `from` into dst from `at`.
 pub fn copy_at(dst: &mut [u8], at: usize, src: &[u8], from: usize, n: usize)
@@ -61,4 +62,18 @@ pub fn xor4_at(
         dst[at + i] = dst[at + i] ^ src[a + i] ^ src[b + i] ^ src[c + i] ^ src[d + i];
         i += 1;
     }
+}
+
+// Whether n bytes of a from `at` are those of b from `from`.
+pub fn same_at(a: &[u8], at: usize, b: &[u8], from: usize, n: usize) -> bool
+    requires { ⌜ (at + n ≤ length (now a)) × (from + n ≤ length (now b)) ⌝ }
+    ensures { λ r. ⌜ r ≡ same (take n (drop at (now (a .entry)))) (take n (drop from (now (b .entry)))) ⌝ }
+{
+    let mut is = true;
+    let mut i = 0;
+    while i < n {
+        is = is & (a[at + i] == b[from + i]);
+        i += 1;
+    }
+    is
 }
