@@ -58,3 +58,13 @@ first-stops ((k, false) ∷ ts) us h = first-stops ts us h
 -- where none does, the second decides
 pub first-goes : (ts us : List (ℕ × Bool)) → Numbered ts → first ts ≡ 0 → first us ≡ first (ts ++ us)
 first-goes ts us n e = sym (first-append ts us (first-none ts n e))
+
+-- 0 over both says 0 over each
+pub first-front : (ts us : List (ℕ × Bool)) → first (ts ++ us) ≡ 0 → first ts ≡ 0
+unfolding first
+first-front [] us e = refl
+first-front ((k, true) ∷ ts) us e = e
+first-front ((k, false) ∷ ts) us e = first-front ts us e
+
+pub first-back : (ts us : List (ℕ × Bool)) → Numbered ts → first (ts ++ us) ≡ 0 → first us ≡ 0
+first-back ts us n e = first-goes ts us n (first-front ts us e) ∙ e

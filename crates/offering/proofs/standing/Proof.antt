@@ -1,0 +1,14 @@
+-- `offering::standing` meets its contract: an offer has no output that could be short. Assumes nothing.
+use mathlib.Core.Path.{_≡_, refl, sym, ap, _∙_}
+use borrow.Author.Needs.{needs}
+use Rattle.offering.proofs.standing.Statement.{statement}
+use Rattle.offering.proofs.standing.Tie as tie
+
+standing-fault-requires : tie.Need-standing-fault-requires
+standing-fault-requires c κs = search needs
+
+returns : tie.Need-returns
+returns c = c .standing-fault .ensures (c .before .before .before .before .before .before .before .before .before .args .media .now) (c .before .before .before .before .before .before .before .before .before .args .timestamps .now) (c .before .before .before .before .before .before .before .before .before .args .parity .now) (c .before .before .before .before .before .before .before .before .before .args .recoveries .now) refl refl refl refl
+
+pub standing-spec : {M : Type 1} → statement M
+standing-spec = tie.close (tie.spec standing-fault-requires returns)
