@@ -1,11 +1,11 @@
 -- What every call but opening meets first, refusals 1 to 5: the ways through them, and what is known behind them. Assumes nothing.
 use mathlib.Core.Path.{_≡_, sym, _∙_}
-use mathlib.Core.Bool.{Bool, true, false, _||_}
+use mathlib.Core.Bool.{Bool, true, false, not, _||_}
 use mathlib.Core.List.{List, [], _∷_, _++_}
 use Prim.Native.Nat.{ℕ, _≤_}
 use lib.Dec.{ltb}
 use lib.ListN.{length, replicate, length-replicate}
-use borrow.Author.Tests.{ltb-false}
+use borrow.Author.Tests.{ltb-false, not-true, not-false}
 use Rattle.answer.specs.First.{first, first-hit, first-past, first-end, first-none, first-stops, first-goes}
 use Rattle.sequence.specs.Lists.{or-split}
 use Rattle.window.specs.declared.Window.{Window}
@@ -63,11 +63,12 @@ module _ (w : Window) (s : Store) (short : Bool) where
     store-stops h = goes 4 (first-hit 4 (shortStore w s || short) ((5, disorder w s) ∷ []) h)
 
     module _ (long : (shortStore w s || short) ≡ false) where
-      pub order-stops : disorder w s ≡ true → 5 ≡ first (standingBy w s short)
-      order-stops h = goes 5 (first-past 5 4 (shortStore w s || short) ((5, disorder w s) ∷ []) long (first-hit 5 (disorder w s) [] h))
+      module _ (good : Bool) (e : good ≡ not (disorder w s)) where
+        pub order-stops : not good ≡ true → 5 ≡ first (standingBy w s short)
+        order-stops h = goes 5 (first-past 5 4 (shortStore w s || short) ((5, disorder w s) ∷ []) long (first-hit 5 (disorder w s) [] (not-false (disorder w s) (sym e ∙ not-true good h))))
 
-      pub none-stops : disorder w s ≡ false → 0 ≡ first (standingBy w s short)
-      none-stops h = goes 0 (first-past 0 4 (shortStore w s || short) ((5, disorder w s) ∷ []) long (first-past 0 5 (disorder w s) [] h first-end))
+        pub none-stops : not good ≡ false → 0 ≡ first (standingBy w s short)
+        none-stops h = goes 0 (first-past 0 4 (shortStore w s || short) ((5, disorder w s) ∷ []) long (first-past 0 5 (disorder w s) [] (not-true (disorder w s) (sym e ∙ not-false good h)) first-end))
 
 -- ---- the sizes of a store, of which only some parts are at hand
 pub sizes-same : (w : Window) (z : Sizes) (s : Store) → z .media ≡ length (s .media) → z .timestamps ≡ length (s .timestamps) → z .marks ≡ length (s .marks) → z .parity ≡ length (s .parity)

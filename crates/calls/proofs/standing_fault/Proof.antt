@@ -1,11 +1,13 @@
 -- `calls::standing_fault` meets its contract: each return by the tests that led there. Assumes nothing.
-use mathlib.Core.Path.{sym, ap, _∙_}
+use mathlib.Core.Path.{_≡_, sym, ap, _∙_}
 use mathlib.Core.Bool.{Bool, _||_}
 use mathlib.Core.List.{List}
 use Prim.Native.Nat.{ℕ}
-use borrow.Author.Tests.{not-true, not-false}
+use lib.ListN.{length}
+use Rattle.answer.specs.First.{first}
 use Rattle.sequence.specs.Lists.{or-split}
-use Rattle.window.specs.Store.{Store}
+use Rattle.window.specs.Limits.{setUpTests}
+use Rattle.window.specs.Store.{Store, shortStore}
 use Rattle.window.specs.Bounds.{set-up-good}
 use Rattle.calls.specs.Standing.{set-up-stops, store-stops, order-stops, none-stops, sizes-same, tables-long}
 use borrow.Author.Needs.{needs}
@@ -26,28 +28,57 @@ S s m t p q =
       uses = s .args .uses .now;
     }
 
+abbrev start : tie.Else1 → tie.Start
+start c = c .before .before .before .before .before .before
+
+ok : (c : tie.Else1) → first (setUpTests (start c .args .w)) ≡ 0
+ok c = sym (c .before .set-up-fault .ensures) ∙ c .if1 .left
+
+-- the test that the code makes is the one of such a store
+same : (c : tie.After-short-store) (m t p q : List ℕ) → start (c .before) .args .z .media ≡ length m → start (c .before) .args .z .timestamps ≡ length t → start (c .before) .args .z .parity ≡ length p → start (c .before) .args .z .recoveries ≡ length q
+    → (shortStore (start (c .before) .args .w) (S (start (c .before)) m t p q) || start (c .before) .args .short) ≡ (c .short-store .result || start (c .before) .args .short)
+same c m t p q em et ep eq =
+    let s = start (c .before) in
+    ap (λ (b : Bool). b || s .args .short) (sym (c .short-store .ensures ∙ sizes-same (s .args .w) (s .args .z) (S s m t p q) em et (s .pre .0) ep (s .pre .1) (s .pre .2) eq (s .pre .3)))
+
 set-up-fault-requires : tie.Need-set-up-fault-requires
 set-up-fault-requires c κs = search needs
 
 returns : tie.Need-returns
-returns c = λ m t p q em et ep eq. set-up-stops (c .before .before .before .before .before .before .args .w) (S (c .before .before .before .before .before .before) m t p q) (c .before .before .before .before .before .before .args .short) _ (c .before .set-up-fault .ensures) (c .if1 .taken)
+returns c = let s = c .before .before .before .before .before .before in λ m t p q em et ep eq. set-up-stops (s .args .w) (S s m t p q) (s .args .short) _ (c .before .set-up-fault .ensures) (c .if1 .taken)
 
 short-store-requires : tie.Need-short-store-requires
-short-store-requires c κs = set-up-good (c .before .before .before .before .before .before .args .w) (sym (c .before .set-up-fault .ensures) ∙ c .if1 .left)
+short-store-requires c κs = set-up-good (start c .args .w) (ok c)
 
 returns-2 : tie.Need-returns-2
-returns-2 c = λ m t p q em et ep eq. store-stops (c .before .before .before .before .before .before .before .before .args .w) (S (c .before .before .before .before .before .before .before .before) m t p q) (c .before .before .before .before .before .before .before .before .args .short) (sym (c .before .before .before .set-up-fault .ensures) ∙ c .before .before .if1 .left) (ap (λ (b : Bool). b || c .before .before .before .before .before .before .before .before .args .short) (sym (c .before .short-store .ensures ∙ sizes-same (c .before .before .before .before .before .before .before .before .args .w) (c .before .before .before .before .before .before .before .before .args .z) (S (c .before .before .before .before .before .before .before .before) m t p q) em et (c .before .before .before .before .before .before .before .before .pre .0) ep (c .before .before .before .before .before .before .before .before .pre .1) (c .before .before .before .before .before .before .before .before .pre .2) eq (c .before .before .before .before .before .before .before .before .pre .3))) ∙ c .if2 .taken)
+returns-2 c =
+    let e = c .before .before in
+    let s = start e in
+    let a = s .args in
+    λ m t p q em et ep eq. store-stops (a .w) (S s m t p q) (a .short) (ok e) (same (c .before) m t p q em et ep eq ∙ c .if2 .taken)
 
 in-order-requires : tie.Need-in-order-requires
 in-order-requires c κs =
-    let long = tables-long (c .before .before .before .before .before .before .before .before .args .w) (c .before .before .before .before .before .before .before .before .args .z) (c .before .before .before .before .before .before .before .before .args .marks .now) (c .before .before .before .before .before .before .before .before .args .streams .now) (c .before .before .before .before .before .before .before .before .args .snbases .now) (c .before .before .before .before .before .before .before .before .args .uses .now) (c .before .before .before .before .before .before .before .before .pre .0) (c .before .before .before .before .before .before .before .before .pre .1) (c .before .before .before .before .before .before .before .before .pre .2) (c .before .before .before .before .before .before .before .before .pre .3) (sym (c .before .short-store .ensures) ∙ or-split _ _ (c .if2 .left) .0) in
-    (set-up-good (c .before .before .before .before .before .before .before .before .args .w) (sym (c .before .before .before .set-up-fault .ensures) ∙ c .before .before .if1 .left), long .0, long .1, long .2, long .3)
+    let e = c .before .before in
+    let s = start e in
+    let a = s .args in
+    let h = s .pre in
+    let long = tables-long (a .w) (a .z) (a .marks .now) (a .streams .now) (a .snbases .now) (a .uses .now) (h .0) (h .1) (h .2) (h .3) (sym (c .before .short-store .ensures) ∙ or-split _ _ (c .if2 .left) .0) in
+    (set-up-good (a .w) (ok e), long .0, long .1, long .2, long .3)
 
 returns-3 : tie.Need-returns-3
-returns-3 c = λ m t p q em et ep eq. order-stops (c .before .before .before .before .before .before .before .before .before .before .args .w) (S (c .before .before .before .before .before .before .before .before .before .before) m t p q) (c .before .before .before .before .before .before .before .before .before .before .args .short) (sym (c .before .before .before .before .before .set-up-fault .ensures) ∙ c .before .before .before .before .if1 .left) (ap (λ (b : Bool). b || c .before .before .before .before .before .before .before .before .before .before .args .short) (sym (c .before .before .before .short-store .ensures ∙ sizes-same (c .before .before .before .before .before .before .before .before .before .before .args .w) (c .before .before .before .before .before .before .before .before .before .before .args .z) (S (c .before .before .before .before .before .before .before .before .before .before) m t p q) em et (c .before .before .before .before .before .before .before .before .before .before .pre .0) ep (c .before .before .before .before .before .before .before .before .before .before .pre .1) (c .before .before .before .before .before .before .before .before .before .before .pre .2) eq (c .before .before .before .before .before .before .before .before .before .before .pre .3))) ∙ c .before .before .if2 .left) (not-false _ (sym (c .before .in-order .ensures m t p q) ∙ not-true _ (c .if3 .taken)))
+returns-3 c =
+    let e = c .before .before .before .before in
+    let s = start e in
+    let a = s .args in
+    λ m t p q em et ep eq. order-stops (a .w) (S s m t p q) (a .short) (ok e) (same (c .before .before .before) m t p q em et ep eq ∙ c .before .before .if2 .left) _ (c .before .in-order .ensures m t p q) (c .if3 .taken)
 
 returns-4 : tie.Need-returns-4
-returns-4 c = λ m t p q em et ep eq. none-stops (c .before .before .before .before .before .before .before .before .before .before .args .w) (S (c .before .before .before .before .before .before .before .before .before .before) m t p q) (c .before .before .before .before .before .before .before .before .before .before .args .short) (sym (c .before .before .before .before .before .set-up-fault .ensures) ∙ c .before .before .before .before .if1 .left) (ap (λ (b : Bool). b || c .before .before .before .before .before .before .before .before .before .before .args .short) (sym (c .before .before .before .short-store .ensures ∙ sizes-same (c .before .before .before .before .before .before .before .before .before .before .args .w) (c .before .before .before .before .before .before .before .before .before .before .args .z) (S (c .before .before .before .before .before .before .before .before .before .before) m t p q) em et (c .before .before .before .before .before .before .before .before .before .before .pre .0) ep (c .before .before .before .before .before .before .before .before .before .before .pre .1) (c .before .before .before .before .before .before .before .before .before .before .pre .2) eq (c .before .before .before .before .before .before .before .before .before .before .pre .3))) ∙ c .before .before .if2 .left) (not-true _ (sym (c .before .in-order .ensures m t p q) ∙ not-false _ (c .if3 .left)))
+returns-4 c =
+    let e = c .before .before .before .before in
+    let s = start e in
+    let a = s .args in
+    λ m t p q em et ep eq. none-stops (a .w) (S s m t p q) (a .short) (ok e) (same (c .before .before .before) m t p q em et ep eq ∙ c .before .before .if2 .left) _ (c .before .in-order .ensures m t p q) (c .if3 .left)
 
 pub standing-fault-spec : {M : Type 1} → statement M
 standing-fault-spec =

@@ -1,0 +1,55 @@
+-- A datagram laid down in a lent output, payload first and then the headers in front of it. Assumes nothing.
+use mathlib.Core.Path.{_≡_, refl, sym, ap, ap₂, _∙_}
+use mathlib.Core.Bool.{Bool, true, false, not}
+use mathlib.Core.List.{List, [], _∷_, _++_, append-assoc}
+use Prim.Native.Nat.{ℕ, zero, suc, _+_, _≤_}
+use native.Mathlib.Nat.{zero-add}
+use native.Mathlib.Omega.{arith}
+use lib.Dec.{ltb}
+use lib.ListN.{length, take, drop, replicate, length-append, length-replicate}
+use lib.Seq.{paste, sets, sets-eq, length-paste, length-take-le, take-length, drop-at}
+use borrow.Author.Tests.{lt-ltb, le-ltb}
+use Rattle.sequence.specs.Lists.{any, keep, count, or-split, any-count}
+use Rattle.xor.specs.Xor.{zipXor, xorAt, paste-xor}
+use Rattle.xor.specs.Laws.{zip-zero}
+use Rattle.calls.specs.Call.{over}
+
+-- p elements of y pasted behind n places, and the n elements of h put there
+pub laid : (h y out : List ℕ) (n p : ℕ) → length h ≡ n → n + p ≤ length out → p ≤ length y → sets (paste out n y p) 0 h ≡ over (h ++ take p y) out
+laid h y out n p eh ho hy =
+    let l = length-paste out n y p ho hy in
+    let head : length (take n out) ≡ n = length-take-le n out (omega arith) in
+    let front : drop n (paste out n y p) ≡ take p y ++ drop (n + p) out = rw append-assoc (drop-at (take n out) (take p y ++ drop (n + p) out) n head) in
+    let size : length (h ++ take p y) ≡ n + p = length-append h (take p y) ∙ ap₂ _+_ eh (length-take-le p y hy) in
+    sets-eq h (paste out n y p) 0 (omega arith)
+    ∙ ap (λ (k : ℕ). h ++ drop k (paste out n y p)) (zero-add (length h) ∙ eh)
+    ∙ ap (λ (t : List ℕ). h ++ t) front
+    ∙ sym (append-assoc h (take p y) (drop (n + p) out))
+    ∙ ap (λ (k : ℕ). h ++ take p y ++ drop k out) (sym size)
+
+-- the same where y is xored into p zeros that were pasted there first
+pub laid-sum : (h x out : List ℕ) (n p : ℕ) → length h ≡ n → n + p ≤ length out → length x ≡ p → sets (xorAt (paste out n (replicate p 0) p) n x p) 0 h ≡ over (h ++ x) out
+laid-sum h x out n p eh ho ex =
+    let z = length-replicate {A = ℕ} p 0 in
+    let zeros : zipXor (replicate p 0) x ≡ x = ap (λ (k : ℕ). zipXor (replicate k 0) x) (sym ex) ∙ zip-zero x in
+    ap (λ (l : List ℕ). sets l 0 h) (paste-xor out n (replicate p 0) x p ho (omega arith) ∙ ap (λ (l : List ℕ). paste out n l p) zeros)
+    ∙ laid h x out n p eh ho (omega arith)
+    ∙ ap (λ (l : List ℕ). over (h ++ l) out) (ap (λ (k : ℕ). take k x) (sym ex) ∙ take-length x)
+
+-- where a test holds of no element, the elements of which it does not hold are all
+pub keep-all : (test : ℕ → Bool) (l : List ℕ) → any test l ≡ false → keep (λ i. not (test i)) l ≡ l
+keep-all test [] e = refl
+keep-all test (i ∷ l) e =
+    let s = or-split (test i) (any test l) e in
+    rw (s .0) (ap (λ (k : List ℕ). i ∷ k) (keep-all test l (s .1)))
+
+-- whether a test holds of some element, by how many it holds of
+positive : (m : ℕ) → (m ≡ 0 → ⊥) → ltb 0 m ≡ true
+positive zero h = absurd (h refl)
+positive (suc m) h = lt-ltb 0 (suc m) (omega arith)
+
+pub any-some : (test : ℕ → Bool) (l : List ℕ) (n : ℕ) → n ≡ count test l → (n ≡ 0 → ⊥) → any test l ≡ true
+any-some test l n e h = any-count test l ∙ positive (count test l) (λ q. h (e ∙ q))
+
+pub any-none : (test : ℕ → Bool) (l : List ℕ) (n : ℕ) → n ≡ count test l → n ≡ 0 → any test l ≡ false
+any-none test l n e z = any-count test l ∙ le-ltb 0 (count test l) (omega arith)

@@ -1,0 +1,70 @@
+-- `reading::write_headers` meets its contract: the numbers fit their bytes, and the two headers are one. Assumes nothing.
+use native.Mathlib.Omega.{arith}
+use Rattle.window.specs.Plain.{shape-of}
+use Rattle.reading.proofs.Ways.{headers-laid, byNa-le}
+use borrow.Author.Needs.{needs}
+use Rattle.reading.proofs.write_headers.Statement.{statement}
+use Rattle.reading.proofs.write_headers.Tie as tie
+
+na-of-requires : tie.Need-na-of-requires
+na-of-requires c κs = search needs
+
+offset-of-requires : tie.Need-offset-of-requires
+offset-of-requires c κs = search needs
+
+cast-offset : tie.Need-cast-offset
+cast-offset c = let s = shape-of (c .before .before .before .args .w .l) (c .before .before .before .args .w .d) (c .before .before .before .args .stream) (c .before .before .before .pre .0 .profile) in omega (arith, c .offset-of .ensures, s .step-high)
+
+by-na-requires : tie.Need-by-na-requires
+by-na-requires c κs = search needs
+
+cast-size : tie.Need-cast-size
+cast-size c = omega (arith, c .by-na .ensures, byNa-le (c .before .before .na-of .result) (c .before .before .before .before .args .w .p), c .before .before .before .before .pre .0 .p-high)
+
+cast-by-na : tie.Need-cast-by-na
+cast-by-na c = search needs
+
+by-na-requires-2 : tie.Need-by-na-requires-2
+by-na-requires-2 c κs = search needs
+
+cast-kind : tie.Need-cast-kind
+cast-kind c = omega (arith, c .by-na2 .ensures, byNa-le (c .before .before .before .na-of .result) 33)
+
+write-rtp-requires : tie.Need-write-rtp-requires
+write-rtp-requires c κs = search needs
+
+cast-write-fec : tie.Need-cast-write-fec
+cast-write-fec c = let s = shape-of (c .before .before .before .before .before .before .before .before .before .before .args .w .l) (c .before .before .before .before .before .before .before .before .before .before .args .w .d) (c .before .before .before .before .before .before .before .before .before .before .args .stream) (c .before .before .before .before .before .before .before .before .before .before .pre .0 .profile) in omega (arith, c .before .before .before .before .before .before .before .before .na-of .ensures, s .na-high)
+
+write-fec-requires : tie.Need-write-fec-requires
+write-fec-requires c κs = (omega (arith, c .before .before .before .before .before .before .before .before .before .before .pre .2, c .before .before .before .write-rtp .kept), omega (arith, c .before .before .before .before .before .by-na2 .ensures, byNa-le (c .before .before .before .before .before .before .before .before .na-of .result) 33), c .before .before .before .before .before .before .before .before .before .before .pre .1)
+
+same-length : tie.Need-same-length
+same-length c = search needs
+
+returns : tie.Need-returns
+returns c =
+    let a = c .before .before .before .before .before .before .before .before .before .before .before .before .before .args in
+    let na = c .before .before .before .before .before .before .before .before .before .before .before .na-of in
+    let offset = c .before .before .before .before .before .before .before .before .before .before .offset-of in
+    let size = c .before .before .before .before .before .before .before .before .before .by-na in
+    let kind = c .before .before .before .before .before .before .before .before .by-na2 in
+    headers-laid (a .stream) (a .w .l) (a .w .d) (a .w .p) (a .start) (a .stamps) (a .sequence) (a .timestamp) (a .ssrc) (na .result) (offset .result) (size .result) (kind .result) (a .out .now) _ _ (na .ensures) (offset .ensures) (size .ensures) (kind .ensures) (c .before .before .before .before .before .before .write-rtp .ensures) (c .before .before .write-fec .ensures)
+
+pub write-headers-spec : {M : Type 1} → statement M
+write-headers-spec =
+    tie.close
+    (tie.spec
+    na-of-requires
+    offset-of-requires
+    cast-offset
+    by-na-requires
+    cast-size
+    cast-by-na
+    by-na-requires-2
+    cast-kind
+    write-rtp-requires
+    cast-write-fec
+    write-fec-requires
+    same-length
+    returns)
