@@ -1,4 +1,4 @@
--- The starred cases of 01, "Numbers from the bench": one table and one theorem about the definitions.
+-- The starred cases of 01, "Numbers from the bench", and case 11: one table and one theorem about the definitions.
 use mathlib.Core.Path.{_≡_, refl}
 use mathlib.Core.Bool.{Bool, true, false, _&&_}
 use mathlib.Core.List.{List, [], _∷_, _++_}
@@ -97,6 +97,10 @@ corners =
     medias (2 ∷ 3 ∷ 6 ∷ 7 ∷ 8 ∷ 9 ∷ 10 ∷ 11 ∷ 12 ∷ 13 ∷ 14 ∷ 15 ∷ [])
     (parities column (0 ∷ 1 ∷ 2 ∷ 3 ∷ []) (parities row (0 ∷ 4 ∷ 8 ∷ 12 ∷ []) square))
 
+-- case 11: case 10, then media 5 arrives
+late : Outcome
+late = media 5 0 corners
+
 pub cases : List Case
 cases =
     record { number = 1; got = opening 20 5 188 ∷ opening 1 4 188 ∷ []; said = 0 ∷ 0 ∷ [] }
@@ -118,6 +122,7 @@ cases =
           ++ (0xFF ∷ 0xFA ∷ 0x00 ∷ 0x00 ∷ 0x80 ∷ 0x00 ∷ 0x00 ∷ 0x00 ∷ 0x00 ∷ 0x00 ∷ 0x00 ∷ 0x20 ∷ 0x00 ∷ 0x04 ∷ 0x04 ∷ 0x00 ∷ []);
     }
     ∷ record { number = 10; got = take 16 (corners .store .marks); said = 0 ∷ 0 ∷ 1 ∷ 1 ∷ 0 ∷ 0 ∷ 1 ∷ 1 ∷ 1 ∷ 1 ∷ 1 ∷ 1 ∷ 1 ∷ 1 ∷ 1 ∷ 1 ∷ [] }
+    ∷ record { number = 11; got = numberOf (late .answer) ∷ countOf (late .answer) ∷ []; said = 0 ∷ 3 ∷ [] }
     ∷ []
 
 -- the test that is computed over the whole table
@@ -136,5 +141,5 @@ agreed [] e = tt
 agreed (c ∷ cs) e = let h = both (same (c .got) (c .said)) (agree cs) e in (same-eq (c .got) (c .said) (h .0), agreed cs (h .1))
 
 pub bench : Agreed cases
-unfolding cases agree opening grid outer stamps zeros parity offer media rebuilt square parities medias corners first opened offeredMedia offeredParity disorder settle round next releaseAll rebuild rounds
+unfolding cases agree opening grid outer stamps zeros parity offer media rebuilt square parities medias corners late first opened offeredMedia offeredParity disorder settle round next releaseAll rebuild rounds
 bench = agreed cases refl

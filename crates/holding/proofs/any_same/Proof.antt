@@ -31,7 +31,9 @@ loop-less : tie.Need-loop-less Inv-loop μ-loop
 loop-less c = search needs
 
 loop-again : tie.Need-loop-again Inv-loop μ-loop
-loop-again c = (omega arith, ap (λ (t : Bool). c .before .before .loop .found || t) (c .holds-same .ensures) ∙ turn-any (holdsSame (c .before .before .before .before .before .before .before .before .before .args .w) (stored [] [] [] (c .before .before .before .before .before .before .before .before .before .args .parity .now) (c .before .before .before .before .before .before .before .before .before .args .streams .now) (c .before .before .before .before .before .before .before .before .before .args .snbases .now) (c .before .before .before .before .before .before .before .before .before .args .recoveries .now) (c .before .before .before .before .before .before .before .before .before .args .uses .now)) (c .before .before .before .before .before .before .before .before .before .args .stream) (c .before .before .before .before .before .before .before .before .before .args .datagram .now)) (c .before .before .loop .r) (c .before .before .loop .found) (c .before .before .loop .inv .1))
+loop-again c =
+    let the-args = c .before .before .before .before .before .before .before .before .before .args in
+    (omega arith, ap (λ (t : Bool). c .before .before .loop .found || t) (c .holds-same .ensures) ∙ turn-any (holdsSame (the-args .w) (stored [] [] [] (the-args .parity .now) (the-args .streams .now) (the-args .snbases .now) (the-args .recoveries .now) (the-args .uses .now)) (the-args .stream) (the-args .datagram .now)) (c .before .before .loop .r) (c .before .before .loop .found) (c .before .before .loop .inv .1))
 
 returns : tie.Need-returns Inv-loop μ-loop
 returns c = let e : c .before .loop .r ≡ c .before .before .before .before .before .before .before .before .args .w .k = omega arith in c .before .loop .inv .1 ∙ rw e

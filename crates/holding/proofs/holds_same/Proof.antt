@@ -54,7 +54,9 @@ same-at-requires : tie.Need-same-at-requires
 same-at-requires c κs = (row-ends (c .before .before .before .before .before .before .before .before .before .before .before .before .before .before .before .before .args .r) (c .before .before .before .before .before .before .before .before .before .before .before .before .before .before .before .before .args .w .k) (c .before .before .before .before .before .before .before .before .before .before .before .before .before .before .before .before .args .w .p) _ (c .before .before .before .before .before .before .before .before .before .before .before .before .before .before .before .before .pre .1) (c .before .before .before .before .before .before .before .before .before .before .before .before .before .before .before .before .pre .2), omega (arith, c .before .before .before .before .before .before .before .before .before .before .before .before .before .before .before .before .pre .7))
 
 returns-5 : tie.Need-returns-5
-returns-5 c = rw (eq-eqb _ 1 (c .before .before .before .before .before .before .before .before .before .if1 .left), eq-eqb _ _ (c .before .before .before .before .before .before .before .if2 .left), eq-eqb _ _ (c .before .before .before .before .if3 .left ∙ c .before .before .before .before .before .snbase .ensures), eq-eqb _ _ (c .before .if4 .left ∙ c .before .before .timestamp-recovery .ensures)) (c .same-at .ensures ∙ ap (same (take (c .before .before .before .before .before .before .before .before .before .before .before .before .before .before .before .before .before .args .w .p) (drop (c .before .before .before .before .before .before .before .before .before .before .before .before .before .before .before .before .before .args .r * c .before .before .before .before .before .before .before .before .before .before .before .before .before .before .before .before .before .args .w .p) (c .before .before .before .before .before .before .before .before .before .before .before .before .before .before .before .before .before .args .parity .now)))) (rest-all (c .before .before .before .before .before .before .before .before .before .before .before .before .before .before .before .before .before .args .datagram .now) (c .before .before .before .before .before .before .before .before .before .before .before .before .before .before .before .before .before .args .w .p) (c .before .before .before .before .before .before .before .before .before .before .before .before .before .before .before .before .before .pre .7)))
+returns-5 c =
+    let the-args = c .before .before .before .before .before .before .before .before .before .before .before .before .before .before .before .before .before .args in
+    rw (eq-eqb _ 1 (c .before .before .before .before .before .before .before .before .before .if1 .left), eq-eqb _ _ (c .before .before .before .before .before .before .before .if2 .left), eq-eqb _ _ (c .before .before .before .before .if3 .left ∙ c .before .before .before .before .before .snbase .ensures), eq-eqb _ _ (c .before .if4 .left ∙ c .before .before .timestamp-recovery .ensures)) (c .same-at .ensures ∙ ap (same (take (the-args .w .p) (drop (the-args .r * the-args .w .p) (the-args .parity .now)))) (rest-all (the-args .datagram .now) (the-args .w .p) (c .before .before .before .before .before .before .before .before .before .before .before .before .before .before .before .before .before .pre .7)))
 
 pub holds-same-spec : {M : Type 1} → statement M
 holds-same-spec =

@@ -39,7 +39,9 @@ group-inside-requires : tie.Need-group-inside-requires
 group-inside-requires c κs = search needs
 
 returns : tie.Need-returns
-returns c = λ m t. first-hit _ _ _ (sym (ap not (c .before .group-inside .ensures ∙ ap (inside (c .before .before .before .before .before .before .before .before .before .before .args .w) (c .before .before .before .before .before .before .before .before .before .before .args .stream)) (c .before .before .snbase .ensures))) ∙ c .if1 .taken)
+returns c =
+    let the-args = c .before .before .before .before .before .before .before .before .before .before .args in
+    λ m t. first-hit _ _ _ (sym (ap not (c .before .group-inside .ensures ∙ ap (inside (the-args .w) (the-args .stream)) (c .before .before .snbase .ensures))) ∙ c .if1 .taken)
 
 any-same-requires : tie.Need-any-same-requires
 any-same-requires c κs = search needs
@@ -51,13 +53,17 @@ held-requires : tie.Need-held-requires
 held-requires c κs = search needs
 
 returns-3 : tie.Need-returns-3
-returns-3 c = λ m t. skip2 (c .before .before) _ (first-hit _ _ _ (sym (c .before .held .ensures ∙ ap (λ (k : ℕ). any (holds (stored [] [] (c .before .before .before .before .before .before .before .before .before .before .before .before .before .before .args .marks .now) (c .before .before .before .before .before .before .before .before .before .before .before .before .before .before .args .parity .now) (c .before .before .before .before .before .before .before .before .before .before .before .before .before .before .args .streams .now) (c .before .before .before .before .before .before .before .before .before .before .before .before .before .before .args .snbases .now) (c .before .before .before .before .before .before .before .before .before .before .before .before .before .before .args .recoveries .now) (c .before .before .before .before .before .before .before .before .before .before .before .before .before .before .args .uses .now)) (c .before .before .before .before .before .before .before .before .before .before .before .before .before .before .args .stream) k) (upTo (c .before .before .before .before .before .before .before .before .before .before .before .before .before .before .args .w .k))) (c .before .before .before .before .before .before .snbase .ensures)) ∙ c .if3 .taken))
+returns-3 c =
+    let the-args = c .before .before .before .before .before .before .before .before .before .before .before .before .before .before .args in
+    λ m t. skip2 (c .before .before) _ (first-hit _ _ _ (sym (c .before .held .ensures ∙ ap (λ (k : ℕ). any (holds (stored [] [] (the-args .marks .now) (the-args .parity .now) (the-args .streams .now) (the-args .snbases .now) (the-args .recoveries .now) (the-args .uses .now)) (the-args .stream) k) (upTo (the-args .w .k))) (c .before .before .before .before .before .before .snbase .ensures)) ∙ c .if3 .taken))
 
 lack-requires : tie.Need-lack-requires
 lack-requires c κs = let i = inside-of (c .before .before .before .before .before .before .before .before .before .before .before .before .before .before .args .w .base) (c .before .before .before .before .before .before .before .before .before .before .before .before .before .before .args .w .l) (c .before .before .before .before .before .before .before .before .before .before .before .before .before .before .args .w .d) (c .before .before .before .before .before .before .before .before .before .before .before .before .before .before .args .stream) (c .before .before .before .before .before .before .snbase .result) (omega (arith, c .before .before .before .before .before .before .before .before .before .before .before .before .before .before .good)) (c .before .before .before .before .before .before .before .before .before .before .before .before .before .before .pre .0 .profile) (c .before .before .before .before .before .before .before .before .before .before .before .before .before .before .args .w .n) (c .before .before .before .before .before .before .before .before .before .before .before .before .before .before .pre .0 .n-high) (sym (c .before .before .before .before .before .group-inside .ensures) ∙ not-false _ (c .before .before .before .before .if1 .left)) in (c .before .before .before .before .before .before .before .before .before .before .before .before .before .before .pre .0 .profile, inside-more 400 (c .before .before .before .before .before .before .before .before .before .before .before .before .before .before .pre .0 .n-high) i, inside-more _ (c .before .before .before .before .before .before .before .before .before .before .before .before .before .before .pre .1) i)
 
 returns-4 : tie.Need-returns-4
-returns-4 c = λ m t. skip3 (c .before .before .before) _ (first-hit _ _ _ (sym (ap (λ (k : ℕ). ltb 1 k && not (ltb (c .before .before .before .before .before .before .before .before .before .before .before .before .before .before .before .before .before .args .w .«in_use») (c .before .before .before .before .before .before .before .before .before .before .before .before .before .before .before .before .before .args .w .k))) (c .before .before .lack .ensures ∙ ap (λ (k : ℕ). length (missing (stored [] [] (c .before .before .before .before .before .before .before .before .before .before .before .before .before .before .before .before .before .args .marks .now) (c .before .before .before .before .before .before .before .before .before .before .before .before .before .before .before .before .before .args .parity .now) (c .before .before .before .before .before .before .before .before .before .before .before .before .before .before .before .before .before .args .streams .now) (c .before .before .before .before .before .before .before .before .before .before .before .before .before .before .before .before .before .args .snbases .now) (c .before .before .before .before .before .before .before .before .before .before .before .before .before .before .before .before .before .args .recoveries .now) (c .before .before .before .before .before .before .before .before .before .before .before .before .before .before .before .before .before .args .uses .now)) (group (c .before .before .before .before .before .before .before .before .before .before .before .before .before .before .before .before .before .args .w) (c .before .before .before .before .before .before .before .before .before .before .before .before .before .before .before .before .before .args .stream) k))) (c .before .before .before .before .before .before .before .before .before .snbase .ensures))) ∙ c .if4 .taken))
+returns-4 c =
+    let the-args = c .before .before .before .before .before .before .before .before .before .before .before .before .before .before .before .before .before .args in
+    λ m t. skip3 (c .before .before .before) _ (first-hit _ _ _ (sym (ap (λ (k : ℕ). ltb 1 k && not (ltb (the-args .w .«in_use») (the-args .w .k))) (c .before .before .lack .ensures ∙ ap (λ (k : ℕ). length (missing (stored [] [] (the-args .marks .now) (the-args .parity .now) (the-args .streams .now) (the-args .snbases .now) (the-args .recoveries .now) (the-args .uses .now)) (group (the-args .w) (the-args .stream) k))) (c .before .before .before .before .before .before .before .before .before .snbase .ensures))) ∙ c .if4 .taken))
 
 returns-5 : tie.Need-returns-5
 returns-5 c = λ m t. skip4 c 0 first-end

@@ -21,10 +21,14 @@ cast-i : tie.Need-cast-i
 cast-i c = search needs
 
 mul-copy-at : tie.Need-mul-copy-at
-mul-copy-at c = let g = media-good (c .before .before .before .before .before .before .before .before .before .before .before .before .args .w) (c .before .before .before .before .before .before .before .before .before .before .before .before .args .datagram .now) (stored (c .before .before .before .before .before .before .before .before .before .before .before .before .args .media .now) (c .before .before .before .before .before .before .before .before .before .before .before .before .args .timestamps .now) (c .before .before .before .before .before .before .before .before .before .before .before .before .args .marks .now) (c .before .before .before .before .before .before .before .before .before .before .before .before .args .parity .now) (c .before .before .before .before .before .before .before .before .before .before .before .before .args .streams .now) (c .before .before .before .before .before .before .before .before .before .before .before .before .args .snbases .now) (c .before .before .before .before .before .before .before .before .before .before .before .before .args .recoveries .now) (c .before .before .before .before .before .before .before .before .before .before .before .before .args .uses .now)) (c .before .before .before .before .before .before .before .before .before .before .before .before .pre) in let n : c .before .position .result < c .before .before .before .before .before .before .before .before .before .before .before .before .args .w .n = rw (c .before .position .ensures ∙ ap (ahead 16 (c .before .before .before .before .before .before .before .before .before .before .before .before .args .w .base)) (c .before .before .sequence-number .ensures)) (g .near) in omega (arith, row-ends (c .before .position .result) (c .before .before .before .before .before .before .before .before .before .before .before .before .args .w .n) (c .before .before .before .before .before .before .before .before .before .before .before .before .args .w .p) _ n (g .standing .sized .media-long))
+mul-copy-at c =
+    let the-args = c .before .before .before .before .before .before .before .before .before .before .before .before .args in
+    let g = media-good (the-args .w) (the-args .datagram .now) (stored (the-args .media .now) (the-args .timestamps .now) (the-args .marks .now) (the-args .parity .now) (the-args .streams .now) (the-args .snbases .now) (the-args .recoveries .now) (the-args .uses .now)) (c .before .before .before .before .before .before .before .before .before .before .before .before .pre) in let n : c .before .position .result < the-args .w .n = rw (c .before .position .ensures ∙ ap (ahead 16 (the-args .w .base)) (c .before .before .sequence-number .ensures)) (g .near) in omega (arith, row-ends (c .before .position .result) (the-args .w .n) (the-args .w .p) _ n (g .standing .sized .media-long))
 
 copy-at-requires : tie.Need-copy-at-requires
-copy-at-requires c κs = let g = media-good (c .before .before .before .before .before .before .before .before .before .before .before .before .args .w) (c .before .before .before .before .before .before .before .before .before .before .before .before .args .datagram .now) (stored (c .before .before .before .before .before .before .before .before .before .before .before .before .args .media .now) (c .before .before .before .before .before .before .before .before .before .before .before .before .args .timestamps .now) (c .before .before .before .before .before .before .before .before .before .before .before .before .args .marks .now) (c .before .before .before .before .before .before .before .before .before .before .before .before .args .parity .now) (c .before .before .before .before .before .before .before .before .before .before .before .before .args .streams .now) (c .before .before .before .before .before .before .before .before .before .before .before .before .args .snbases .now) (c .before .before .before .before .before .before .before .before .before .before .before .before .args .recoveries .now) (c .before .before .before .before .before .before .before .before .before .before .before .before .args .uses .now)) (c .before .before .before .before .before .before .before .before .before .before .before .before .pre) in let n : c .before .position .result < c .before .before .before .before .before .before .before .before .before .before .before .before .args .w .n = rw (c .before .position .ensures ∙ ap (ahead 16 (c .before .before .before .before .before .before .before .before .before .before .before .before .args .w .base)) (c .before .before .sequence-number .ensures)) (g .near) in (row-ends (c .before .position .result) (c .before .before .before .before .before .before .before .before .before .before .before .before .args .w .n) (c .before .before .before .before .before .before .before .before .before .before .before .before .args .w .p) _ n (g .standing .sized .media-long), omega (arith, g .long))
+copy-at-requires c κs =
+    let the-args = c .before .before .before .before .before .before .before .before .before .before .before .before .args in
+    let g = media-good (the-args .w) (the-args .datagram .now) (stored (the-args .media .now) (the-args .timestamps .now) (the-args .marks .now) (the-args .parity .now) (the-args .streams .now) (the-args .snbases .now) (the-args .recoveries .now) (the-args .uses .now)) (c .before .before .before .before .before .before .before .before .before .before .before .before .pre) in let n : c .before .position .result < the-args .w .n = rw (c .before .position .ensures ∙ ap (ahead 16 (the-args .w .base)) (c .before .before .sequence-number .ensures)) (g .near) in (row-ends (c .before .position .result) (the-args .w .n) (the-args .w .p) _ n (g .standing .sized .media-long), omega (arith, g .long))
 
 timestamp-requires : tie.Need-timestamp-requires
 timestamp-requires c κs = search needs
@@ -33,21 +37,28 @@ mul-timestamps : tie.Need-mul-timestamps
 mul-timestamps c = search needs
 
 slice-write-timestamps : tie.Need-slice-write-timestamps
-slice-write-timestamps c = let g = media-good (c .before .before .before .before .before .before .before .before .before .before .before .before .before .before .before .before .args .w) (c .before .before .before .before .before .before .before .before .before .before .before .before .before .before .before .before .args .datagram .now) (stored (c .before .before .before .before .before .before .before .before .before .before .before .before .before .before .before .before .args .media .now) (c .before .before .before .before .before .before .before .before .before .before .before .before .before .before .before .before .args .timestamps .now) (c .before .before .before .before .before .before .before .before .before .before .before .before .before .before .before .before .args .marks .now) (c .before .before .before .before .before .before .before .before .before .before .before .before .before .before .before .before .args .parity .now) (c .before .before .before .before .before .before .before .before .before .before .before .before .before .before .before .before .args .streams .now) (c .before .before .before .before .before .before .before .before .before .before .before .before .before .before .before .before .args .snbases .now) (c .before .before .before .before .before .before .before .before .before .before .before .before .before .before .before .before .args .recoveries .now) (c .before .before .before .before .before .before .before .before .before .before .before .before .before .before .before .before .args .uses .now)) (c .before .before .before .before .before .before .before .before .before .before .before .before .before .before .before .before .pre) in let n : c .before .before .before .before .before .position .result < c .before .before .before .before .before .before .before .before .before .before .before .before .before .before .before .before .args .w .n = rw (c .before .before .before .before .before .position .ensures ∙ ap (ahead 16 (c .before .before .before .before .before .before .before .before .before .before .before .before .before .before .before .before .args .w .base)) (c .before .before .before .before .before .before .sequence-number .ensures)) (g .near) in omega (arith, g .standing .sized .timestamps-long)
+slice-write-timestamps c =
+    let the-args = c .before .before .before .before .before .before .before .before .before .before .before .before .before .before .before .before .args in
+    let g = media-good (the-args .w) (the-args .datagram .now) (stored (the-args .media .now) (the-args .timestamps .now) (the-args .marks .now) (the-args .parity .now) (the-args .streams .now) (the-args .snbases .now) (the-args .recoveries .now) (the-args .uses .now)) (c .before .before .before .before .before .before .before .before .before .before .before .before .before .before .before .before .pre) in let n : c .before .before .before .before .before .position .result < the-args .w .n = rw (c .before .before .before .before .before .position .ensures ∙ ap (ahead 16 (the-args .w .base)) (c .before .before .before .before .before .before .sequence-number .ensures)) (g .near) in omega (arith, g .standing .sized .timestamps-long)
 
 slice-write-marks : tie.Need-slice-write-marks
-slice-write-marks c = let g = media-good (c .before .before .before .before .before .before .before .before .before .before .before .before .before .before .before .before .args .w) (c .before .before .before .before .before .before .before .before .before .before .before .before .before .before .before .before .args .datagram .now) (stored (c .before .before .before .before .before .before .before .before .before .before .before .before .before .before .before .before .args .media .now) (c .before .before .before .before .before .before .before .before .before .before .before .before .before .before .before .before .args .timestamps .now) (c .before .before .before .before .before .before .before .before .before .before .before .before .before .before .before .before .args .marks .now) (c .before .before .before .before .before .before .before .before .before .before .before .before .before .before .before .before .args .parity .now) (c .before .before .before .before .before .before .before .before .before .before .before .before .before .before .before .before .args .streams .now) (c .before .before .before .before .before .before .before .before .before .before .before .before .before .before .before .before .args .snbases .now) (c .before .before .before .before .before .before .before .before .before .before .before .before .before .before .before .before .args .recoveries .now) (c .before .before .before .before .before .before .before .before .before .before .before .before .before .before .before .before .args .uses .now)) (c .before .before .before .before .before .before .before .before .before .before .before .before .before .before .before .before .pre) in let n : c .before .before .before .before .before .position .result < c .before .before .before .before .before .before .before .before .before .before .before .before .before .before .before .before .args .w .n = rw (c .before .before .before .before .before .position .ensures ∙ ap (ahead 16 (c .before .before .before .before .before .before .before .before .before .before .before .before .before .before .before .before .args .w .base)) (c .before .before .before .before .before .before .sequence-number .ensures)) (g .near) in omega (arith, g .standing .sized .marks-long)
+slice-write-marks c =
+    let the-args = c .before .before .before .before .before .before .before .before .before .before .before .before .before .before .before .before .args in
+    let g = media-good (the-args .w) (the-args .datagram .now) (stored (the-args .media .now) (the-args .timestamps .now) (the-args .marks .now) (the-args .parity .now) (the-args .streams .now) (the-args .snbases .now) (the-args .recoveries .now) (the-args .uses .now)) (c .before .before .before .before .before .before .before .before .before .before .before .before .before .before .before .before .pre) in let n : c .before .before .before .before .before .position .result < the-args .w .n = rw (c .before .before .before .before .before .position .ensures ∙ ap (ahead 16 (the-args .w .base)) (c .before .before .before .before .before .before .sequence-number .ensures)) (g .near) in omega (arith, g .standing .sized .marks-long)
 
 add-recounted : tie.Need-add-recounted
-add-recounted c = let g = media-good (c .before .before .before .before .before .before .before .before .before .before .before .before .before .before .before .before .before .args .w) (c .before .before .before .before .before .before .before .before .before .before .before .before .before .before .before .before .before .args .datagram .now) (stored (c .before .before .before .before .before .before .before .before .before .before .before .before .before .before .before .before .before .args .media .now) (c .before .before .before .before .before .before .before .before .before .before .before .before .before .before .before .before .before .args .timestamps .now) (c .before .before .before .before .before .before .before .before .before .before .before .before .before .before .before .before .before .args .marks .now) (c .before .before .before .before .before .before .before .before .before .before .before .before .before .before .before .before .before .args .parity .now) (c .before .before .before .before .before .before .before .before .before .before .before .before .before .before .before .before .before .args .streams .now) (c .before .before .before .before .before .before .before .before .before .before .before .before .before .before .before .before .before .args .snbases .now) (c .before .before .before .before .before .before .before .before .before .before .before .before .before .before .before .before .before .args .recoveries .now) (c .before .before .before .before .before .before .before .before .before .before .before .before .before .before .before .before .before .args .uses .now)) (c .before .before .before .before .before .before .before .before .before .before .before .before .before .before .before .before .before .pre) in omega (arith, few-present (c .before .before .before .before .before .before .before .before .before .before .before .before .before .before .before .before .before .args .w) (stored (c .before .before .before .before .before .before .before .before .before .before .before .before .before .before .before .before .before .args .media .now) (c .before .before .before .before .before .before .before .before .before .before .before .before .before .before .before .before .before .args .timestamps .now) (c .before .before .before .before .before .before .before .before .before .before .before .before .before .before .before .before .before .args .marks .now) (c .before .before .before .before .before .before .before .before .before .before .before .before .before .before .before .before .before .args .parity .now) (c .before .before .before .before .before .before .before .before .before .before .before .before .before .before .before .before .before .args .streams .now) (c .before .before .before .before .before .before .before .before .before .before .before .before .before .before .before .before .before .args .snbases .now) (c .before .before .before .before .before .before .before .before .before .before .before .before .before .before .before .before .before .args .recoveries .now) (c .before .before .before .before .before .before .before .before .before .before .before .before .before .before .before .before .before .args .uses .now)) 0 0 (g .standing))
+add-recounted c =
+    let the-args = c .before .before .before .before .before .before .before .before .before .before .before .before .before .before .before .before .before .args in
+    let g = media-good (the-args .w) (the-args .datagram .now) (stored (the-args .media .now) (the-args .timestamps .now) (the-args .marks .now) (the-args .parity .now) (the-args .streams .now) (the-args .snbases .now) (the-args .recoveries .now) (the-args .uses .now)) (c .before .before .before .before .before .before .before .before .before .before .before .before .before .before .before .before .before .pre) in omega (arith, few-present (the-args .w) (stored (the-args .media .now) (the-args .timestamps .now) (the-args .marks .now) (the-args .parity .now) (the-args .streams .now) (the-args .snbases .now) (the-args .recoveries .now) (the-args .uses .now)) 0 0 (g .standing))
 
 recounted-requires : tie.Need-recounted-requires
 recounted-requires c κs = search needs
 
 settle-requires : tie.Need-settle-requires
 settle-requires c κs =
-    let g = media-good (c .before .before .before .before .before .before .before .before .before .before .before .before .before .before .before .before .before .before .before .before .before .before .before .before .before .before .args .w) (c .before .before .before .before .before .before .before .before .before .before .before .before .before .before .before .before .before .before .before .before .before .before .before .before .before .before .args .datagram .now) (stored (c .before .before .before .before .before .before .before .before .before .before .before .before .before .before .before .before .before .before .before .before .before .before .before .before .before .before .args .media .now) (c .before .before .before .before .before .before .before .before .before .before .before .before .before .before .before .before .before .before .before .before .before .before .before .before .before .before .args .timestamps .now) (c .before .before .before .before .before .before .before .before .before .before .before .before .before .before .before .before .before .before .before .before .before .before .before .before .before .before .args .marks .now) (c .before .before .before .before .before .before .before .before .before .before .before .before .before .before .before .before .before .before .before .before .before .before .before .before .before .before .args .parity .now) (c .before .before .before .before .before .before .before .before .before .before .before .before .before .before .before .before .before .before .before .before .before .before .before .before .before .before .args .streams .now) (c .before .before .before .before .before .before .before .before .before .before .before .before .before .before .before .before .before .before .before .before .before .before .before .before .before .before .args .snbases .now) (c .before .before .before .before .before .before .before .before .before .before .before .before .before .before .before .before .before .before .before .before .before .before .before .before .before .before .args .recoveries .now) (c .before .before .before .before .before .before .before .before .before .before .before .before .before .before .before .before .before .before .before .before .before .before .before .before .before .before .args .uses .now)) (c .before .before .before .before .before .before .before .before .before .before .before .before .before .before .before .before .before .before .before .before .before .before .before .before .before .before .pre) in
-    let q = accept-asks (c .before .before .before .before .before .before .before .before .before .before .before .before .before .before .before .before .before .before .before .before .before .before .before .before .before .before .args .w) (c .before .before .before .before .before .before .before .before .recounted .result) (c .before .before .before .before .before .before .before .before .before .before .before .before .before .before .before .before .before .before .before .before .before .before .before .before .before .before .args .w .present + 1) (c .before .before .before .before .before .before .before .before .before .before .before .before .before .before .before .before .before .before .before .before .before .before .before .before .before .before .args .w .«in_use») (c .before .before .before .before .before .before .before .before .before .before .before .before .before .copy-at .last .0) (set (c .before .before .before .before .before .before .before .before .before .before .before .before .before .before .before .before .before .before .before .before .before .before .before .before .before .before .args .timestamps .now) (c .before .before .before .before .before .before .before .before .before .before .before .before .before .before .before .position .result) (c .before .before .before .before .before .before .before .before .before .before .timestamp .result)) (set (c .before .before .before .before .before .before .before .before .before .before .before .before .before .before .before .before .before .before .before .before .before .before .before .before .before .before .args .marks .now) (c .before .before .before .before .before .before .before .before .before .before .before .before .before .before .before .position .result) 1) (c .before .before .before .before .before .before .before .before .before .before .before .before .before .before .before .before .before .before .before .before .before .before .before .before .before .before .args .media .now) (c .before .before .before .before .before .before .before .before .before .before .before .before .before .before .before .before .before .before .before .before .before .before .before .before .before .before .args .timestamps .now) (c .before .before .before .before .before .before .before .before .before .before .before .before .before .before .before .before .before .before .before .before .before .before .before .before .before .before .args .marks .now) (c .before .before .before .before .before .before .before .before .before .before .before .before .before .before .before .before .before .before .before .before .before .before .before .before .before .before .args .parity .now) (c .before .before .before .before .before .before .before .before .before .before .before .before .before .before .before .before .before .before .before .before .before .before .before .before .before .before .args .streams .now) (c .before .before .before .before .before .before .before .before .before .before .before .before .before .before .before .before .before .before .before .before .before .before .before .before .before .before .args .snbases .now) (c .before .before .before .before .before .before .before .before .before .before .before .before .before .before .before .before .before .before .before .before .before .before .before .before .before .before .args .recoveries .now) (c .before .before .before .before .before .before .before .before .before .before .before .before .before .before .before .before .before .before .before .before .before .before .before .before .before .before .args .uses .now) (g .standing) (omega (arith, c .before .before .before .before .before .before .before .before .before .before .before .before .before .before .before .before .before .before .before .before .before .before .before .before .before .before .good)) (c .before .before .before .before .before .before .before .before .recounted .ensures) (omega (arith, few-present (c .before .before .before .before .before .before .before .before .before .before .before .before .before .before .before .before .before .before .before .before .before .before .before .before .before .before .args .w) (stored (c .before .before .before .before .before .before .before .before .before .before .before .before .before .before .before .before .before .before .before .before .before .before .before .before .before .before .args .media .now) (c .before .before .before .before .before .before .before .before .before .before .before .before .before .before .before .before .before .before .before .before .before .before .before .before .before .before .args .timestamps .now) (c .before .before .before .before .before .before .before .before .before .before .before .before .before .before .before .before .before .before .before .before .before .before .before .before .before .before .args .marks .now) (c .before .before .before .before .before .before .before .before .before .before .before .before .before .before .before .before .before .before .before .before .before .before .before .before .before .before .args .parity .now) (c .before .before .before .before .before .before .before .before .before .before .before .before .before .before .before .before .before .before .before .before .before .before .before .before .before .before .args .streams .now) (c .before .before .before .before .before .before .before .before .before .before .before .before .before .before .before .before .before .before .before .before .before .before .before .before .before .before .args .snbases .now) (c .before .before .before .before .before .before .before .before .before .before .before .before .before .before .before .before .before .before .before .before .before .before .before .before .before .before .args .recoveries .now) (c .before .before .before .before .before .before .before .before .before .before .before .before .before .before .before .before .before .before .before .before .before .before .before .before .before .before .args .uses .now)) 0 0 (g .standing))) (omega (arith, few-used (c .before .before .before .before .before .before .before .before .before .before .before .before .before .before .before .before .before .before .before .before .before .before .before .before .before .before .args .w) (stored (c .before .before .before .before .before .before .before .before .before .before .before .before .before .before .before .before .before .before .before .before .before .before .before .before .before .before .args .media .now) (c .before .before .before .before .before .before .before .before .before .before .before .before .before .before .before .before .before .before .before .before .before .before .before .before .before .before .args .timestamps .now) (c .before .before .before .before .before .before .before .before .before .before .before .before .before .before .before .before .before .before .before .before .before .before .before .before .before .before .args .marks .now) (c .before .before .before .before .before .before .before .before .before .before .before .before .before .before .before .before .before .before .before .before .before .before .before .before .before .before .args .parity .now) (c .before .before .before .before .before .before .before .before .before .before .before .before .before .before .before .before .before .before .before .before .before .before .before .before .before .before .args .streams .now) (c .before .before .before .before .before .before .before .before .before .before .before .before .before .before .before .before .before .before .before .before .before .before .before .before .before .before .args .snbases .now) (c .before .before .before .before .before .before .before .before .before .before .before .before .before .before .before .before .before .before .before .before .before .before .before .before .before .before .args .recoveries .now) (c .before .before .before .before .before .before .before .before .before .before .before .before .before .before .before .before .before .before .before .before .before .before .before .before .before .before .args .uses .now)) 0 0 (g .standing))) (omega (arith, c .before .before .before .before .before .before .before .before .before .before .before .before .before .copy-at .kept)) (length-set (c .before .before .before .before .before .before .before .before .before .before .before .before .before .before .before .before .before .before .before .before .before .before .before .before .before .before .args .timestamps .now) _ _) (length-set (c .before .before .before .before .before .before .before .before .before .before .before .before .before .before .before .before .before .before .before .before .before .before .before .before .before .before .args .marks .now) _ _) in
+    let the-args = c .before .before .before .before .before .before .before .before .before .before .before .before .before .before .before .before .before .before .before .before .before .before .before .before .before .before .args in
+    let g = media-good (the-args .w) (the-args .datagram .now) (stored (the-args .media .now) (the-args .timestamps .now) (the-args .marks .now) (the-args .parity .now) (the-args .streams .now) (the-args .snbases .now) (the-args .recoveries .now) (the-args .uses .now)) (c .before .before .before .before .before .before .before .before .before .before .before .before .before .before .before .before .before .before .before .before .before .before .before .before .before .before .pre) in
+    let q = accept-asks (the-args .w) (c .before .before .before .before .before .before .before .before .recounted .result) (the-args .w .present + 1) (the-args .w .«in_use») (c .before .before .before .before .before .before .before .before .before .before .before .before .before .copy-at .last .0) (set (the-args .timestamps .now) (c .before .before .before .before .before .before .before .before .before .before .before .before .before .before .before .position .result) (c .before .before .before .before .before .before .before .before .before .before .timestamp .result)) (set (the-args .marks .now) (c .before .before .before .before .before .before .before .before .before .before .before .before .before .before .before .position .result) 1) (the-args .media .now) (the-args .timestamps .now) (the-args .marks .now) (the-args .parity .now) (the-args .streams .now) (the-args .snbases .now) (the-args .recoveries .now) (the-args .uses .now) (g .standing) (omega (arith, c .before .before .before .before .before .before .before .before .before .before .before .before .before .before .before .before .before .before .before .before .before .before .before .before .before .before .good)) (c .before .before .before .before .before .before .before .before .recounted .ensures) (omega (arith, few-present (the-args .w) (stored (the-args .media .now) (the-args .timestamps .now) (the-args .marks .now) (the-args .parity .now) (the-args .streams .now) (the-args .snbases .now) (the-args .recoveries .now) (the-args .uses .now)) 0 0 (g .standing))) (omega (arith, few-used (the-args .w) (stored (the-args .media .now) (the-args .timestamps .now) (the-args .marks .now) (the-args .parity .now) (the-args .streams .now) (the-args .snbases .now) (the-args .recoveries .now) (the-args .uses .now)) 0 0 (g .standing))) (omega (arith, c .before .before .before .before .before .before .before .before .before .before .before .before .before .copy-at .kept)) (length-set (the-args .timestamps .now) _ _) (length-set (the-args .marks .now) _ _) in
     (q .0, q .1, q .2, q .3, omega arith)
 
 same-length : tie.Need-same-length
@@ -75,7 +86,13 @@ same-length-8 : tie.Need-same-length-8
 same-length-8 c = search needs
 
 returns : tie.Need-returns
-returns c = outcome-is (c .before .before .before .before .before .before .before .before .before .before .before .before .before .before .before .before .before .settle .result .window) _ (c .before .before .before .before .before .before .before .before .before .before .before .before .before .before .before .before .before .settle .result .rebuilt) _ _ (c .before .before .before .before .before .before .before .before .before .before .before .before .before .before .before .before .before .settle .ensures) (accept-is (c .before .before .before .before .before .before .before .before .before .before .before .before .before .before .before .before .before .before .before .before .before .before .before .before .before .before .before .before .before .before .before .before .before .before .before .before .before .before .before .before .before .before .before .before .args .w) (c .before .before .before .before .before .before .before .before .before .before .before .before .before .before .before .before .before .before .before .before .before .before .before .before .before .before .recounted .result) (c .before .before .before .before .before .before .before .before .before .before .before .before .before .before .before .before .before .before .before .before .before .before .before .before .before .before .before .before .before .before .before .before .before .before .before .before .before .before .before .before .before .before .before .before .args .datagram .now) (c .before .before .before .before .before .before .before .before .before .before .before .before .before .before .before .before .before .before .before .before .before .before .before .before .before .before .before .before .before .before .before .before .before .before .before .before .before .before .before .before .before .before .before .before .args .media .now) (c .before .before .before .before .before .before .before .before .before .before .before .before .before .before .before .before .before .before .before .before .before .before .before .before .before .before .before .before .before .before .before .before .before .before .before .before .before .before .before .before .before .before .before .before .args .timestamps .now) (c .before .before .before .before .before .before .before .before .before .before .before .before .before .before .before .before .before .before .before .before .before .before .before .before .before .before .before .before .before .before .before .before .before .before .before .before .before .before .before .before .before .before .before .before .args .marks .now) (c .before .before .before .before .before .before .before .before .before .before .before .before .before .before .before .before .before .before .before .before .before .before .before .before .before .before .before .before .before .before .before .before .before .before .before .before .before .before .before .before .before .before .before .before .args .parity .now) (c .before .before .before .before .before .before .before .before .before .before .before .before .before .before .before .before .before .before .before .before .before .before .before .before .before .before .before .before .before .before .before .before .before .before .before .before .before .before .before .before .before .before .before .before .args .streams .now) (c .before .before .before .before .before .before .before .before .before .before .before .before .before .before .before .before .before .before .before .before .before .before .before .before .before .before .before .before .before .before .before .before .before .before .before .before .before .before .before .before .before .before .before .before .args .snbases .now) (c .before .before .before .before .before .before .before .before .before .before .before .before .before .before .before .before .before .before .before .before .before .before .before .before .before .before .before .before .before .before .before .before .before .before .before .before .before .before .before .before .before .before .before .before .args .recoveries .now) (c .before .before .before .before .before .before .before .before .before .before .before .before .before .before .before .before .before .before .before .before .before .before .before .before .before .before .before .before .before .before .before .before .before .before .before .before .before .before .before .before .before .before .before .before .args .uses .now) (c .before .before .before .before .before .before .before .before .before .before .before .before .before .before .before .before .before .before .before .before .before .before .before .before .before .before .before .before .before .before .before .before .before .position .result) (c .before .before .before .before .before .before .before .before .before .before .before .before .before .before .before .before .before .before .before .before .before .before .before .before .before .before .before .before .timestamp .result) _ (c .before .before .before .before .before .before .before .before .before .before .before .before .before .before .before .before .before .before .before .before .before .before .before .before .before .before .recounted .ensures) (c .before .before .before .before .before .before .before .before .before .before .before .before .before .before .before .before .before .before .before .before .before .before .before .before .before .before .before .before .before .before .before .before .before .position .ensures ∙ ap (ahead 16 (c .before .before .before .before .before .before .before .before .before .before .before .before .before .before .before .before .before .before .before .before .before .before .before .before .before .before .before .before .before .before .before .before .before .before .before .before .before .before .before .before .before .before .before .before .args .w .base)) (c .before .before .before .before .before .before .before .before .before .before .before .before .before .before .before .before .before .before .before .before .before .before .before .before .before .before .before .before .before .before .before .before .before .before .sequence-number .ensures)) (c .before .before .before .before .before .before .before .before .before .before .before .before .before .before .before .before .before .before .before .before .before .before .before .before .before .before .before .before .timestamp .ensures) (c .before .before .before .before .before .before .before .before .before .before .before .before .before .before .before .before .before .before .before .before .before .before .before .before .before .before .before .before .before .before .before .copy-at .ensures))
+returns c =
+    let the-args = c .before .before .before .before .before .before .before .before .before .before .before .before .before .before .before .before .before .before .before .before .before .before .before .before .before .before .before .before .before .before .before .before .before .before .before .before .before .before .before .before .before .before .before .before .args in
+    let the-position = c .before .before .before .before .before .before .before .before .before .before .before .before .before .before .before .before .before .before .before .before .before .before .before .before .before .before .before .before .before .before .before .before .before .position in
+    let the-timestamp = c .before .before .before .before .before .before .before .before .before .before .before .before .before .before .before .before .before .before .before .before .before .before .before .before .before .before .before .before .timestamp in
+    let the-recounted = c .before .before .before .before .before .before .before .before .before .before .before .before .before .before .before .before .before .before .before .before .before .before .before .before .before .before .recounted in
+    let the-settle = c .before .before .before .before .before .before .before .before .before .before .before .before .before .before .before .before .before .settle in
+    outcome-is (the-settle .result .window) _ (the-settle .result .rebuilt) _ _ (the-settle .ensures) (accept-is (the-args .w) (the-recounted .result) (the-args .datagram .now) (the-args .media .now) (the-args .timestamps .now) (the-args .marks .now) (the-args .parity .now) (the-args .streams .now) (the-args .snbases .now) (the-args .recoveries .now) (the-args .uses .now) (the-position .result) (the-timestamp .result) _ (the-recounted .ensures) (the-position .ensures ∙ ap (ahead 16 (the-args .w .base)) (c .before .before .before .before .before .before .before .before .before .before .before .before .before .before .before .before .before .before .before .before .before .before .before .before .before .before .before .before .before .before .before .before .before .before .sequence-number .ensures)) (the-timestamp .ensures) (c .before .before .before .before .before .before .before .before .before .before .before .before .before .before .before .before .before .before .before .before .before .before .before .before .before .before .before .before .before .before .before .copy-at .ensures))
 
 pub accept-media-spec : {M : Type 1} → statement M
 accept-media-spec =

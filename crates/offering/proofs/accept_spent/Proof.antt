@@ -8,7 +8,9 @@ use Rattle.offering.proofs.accept_spent.Statement.{statement}
 use Rattle.offering.proofs.accept_spent.Tie as tie
 
 settle-requires : tie.Need-settle-requires
-settle-requires c κs = let q = accept-asks (c .before .before .before .before .before .before .before .before .before .before .before .before .before .before .before .before .args .w) (c .before .before .before .before .before .before .before .before .before .before .before .before .before .before .before .before .args .w) (c .before .before .before .before .before .before .before .before .before .before .before .before .before .before .before .before .args .w .present) (c .before .before .before .before .before .before .before .before .before .before .before .before .before .before .before .before .args .w .«in_use») (c .before .before .before .before .before .before .before .before .before .before .before .before .before .before .before .before .args .media .now) (c .before .before .before .before .before .before .before .before .before .before .before .before .before .before .before .before .args .timestamps .now) (c .before .before .before .before .before .before .before .before .before .before .before .before .before .before .before .before .args .marks .now) (c .before .before .before .before .before .before .before .before .before .before .before .before .before .before .before .before .args .media .now) (c .before .before .before .before .before .before .before .before .before .before .before .before .before .before .before .before .args .timestamps .now) (c .before .before .before .before .before .before .before .before .before .before .before .before .before .before .before .before .args .marks .now) (c .before .before .before .before .before .before .before .before .before .before .before .before .before .before .before .before .args .parity .now) (c .before .before .before .before .before .before .before .before .before .before .before .before .before .before .before .before .args .streams .now) (c .before .before .before .before .before .before .before .before .before .before .before .before .before .before .before .before .args .snbases .now) (c .before .before .before .before .before .before .before .before .before .before .before .before .before .before .before .before .args .recoveries .now) (c .before .before .before .before .before .before .before .before .before .before .before .before .before .before .before .before .args .uses .now) (c .before .before .before .before .before .before .before .before .before .before .before .before .before .before .before .before .pre) (omega (arith, c .before .before .before .before .before .before .before .before .before .before .before .before .before .before .before .before .good)) refl (omega (arith, few-present (c .before .before .before .before .before .before .before .before .before .before .before .before .before .before .before .before .args .w) (stored (c .before .before .before .before .before .before .before .before .before .before .before .before .before .before .before .before .args .media .now) (c .before .before .before .before .before .before .before .before .before .before .before .before .before .before .before .before .args .timestamps .now) (c .before .before .before .before .before .before .before .before .before .before .before .before .before .before .before .before .args .marks .now) (c .before .before .before .before .before .before .before .before .before .before .before .before .before .before .before .before .args .parity .now) (c .before .before .before .before .before .before .before .before .before .before .before .before .before .before .before .before .args .streams .now) (c .before .before .before .before .before .before .before .before .before .before .before .before .before .before .before .before .args .snbases .now) (c .before .before .before .before .before .before .before .before .before .before .before .before .before .before .before .before .args .recoveries .now) (c .before .before .before .before .before .before .before .before .before .before .before .before .before .before .before .before .args .uses .now)) 0 0 (c .before .before .before .before .before .before .before .before .before .before .before .before .before .before .before .before .pre))) (omega (arith, few-used (c .before .before .before .before .before .before .before .before .before .before .before .before .before .before .before .before .args .w) (stored (c .before .before .before .before .before .before .before .before .before .before .before .before .before .before .before .before .args .media .now) (c .before .before .before .before .before .before .before .before .before .before .before .before .before .before .before .before .args .timestamps .now) (c .before .before .before .before .before .before .before .before .before .before .before .before .before .before .before .before .args .marks .now) (c .before .before .before .before .before .before .before .before .before .before .before .before .before .before .before .before .args .parity .now) (c .before .before .before .before .before .before .before .before .before .before .before .before .before .before .before .before .args .streams .now) (c .before .before .before .before .before .before .before .before .before .before .before .before .before .before .before .before .args .snbases .now) (c .before .before .before .before .before .before .before .before .before .before .before .before .before .before .before .before .args .recoveries .now) (c .before .before .before .before .before .before .before .before .before .before .before .before .before .before .before .before .args .uses .now)) 0 0 (c .before .before .before .before .before .before .before .before .before .before .before .before .before .before .before .before .pre))) refl refl refl in (q .0, q .1, q .2, q .3, omega arith)
+settle-requires c κs =
+    let the-args = c .before .before .before .before .before .before .before .before .before .before .before .before .before .before .before .before .args in
+    let q = accept-asks (the-args .w) (the-args .w) (the-args .w .present) (the-args .w .«in_use») (the-args .media .now) (the-args .timestamps .now) (the-args .marks .now) (the-args .media .now) (the-args .timestamps .now) (the-args .marks .now) (the-args .parity .now) (the-args .streams .now) (the-args .snbases .now) (the-args .recoveries .now) (the-args .uses .now) (c .before .before .before .before .before .before .before .before .before .before .before .before .before .before .before .before .pre) (omega (arith, c .before .before .before .before .before .before .before .before .before .before .before .before .before .before .before .before .good)) refl (omega (arith, few-present (the-args .w) (stored (the-args .media .now) (the-args .timestamps .now) (the-args .marks .now) (the-args .parity .now) (the-args .streams .now) (the-args .snbases .now) (the-args .recoveries .now) (the-args .uses .now)) 0 0 (c .before .before .before .before .before .before .before .before .before .before .before .before .before .before .before .before .pre))) (omega (arith, few-used (the-args .w) (stored (the-args .media .now) (the-args .timestamps .now) (the-args .marks .now) (the-args .parity .now) (the-args .streams .now) (the-args .snbases .now) (the-args .recoveries .now) (the-args .uses .now)) 0 0 (c .before .before .before .before .before .before .before .before .before .before .before .before .before .before .before .before .pre))) refl refl refl in (q .0, q .1, q .2, q .3, omega arith)
 
 same-length : tie.Need-same-length
 same-length c = search needs
@@ -35,7 +37,9 @@ same-length-8 : tie.Need-same-length-8
 same-length-8 c = search needs
 
 returns : tie.Need-returns
-returns c = outcome-is (c .before .before .before .before .before .before .before .before .before .before .before .before .before .before .before .before .before .settle .result .window) _ (c .before .before .before .before .before .before .before .before .before .before .before .before .before .before .before .before .before .settle .result .rebuilt) _ _ (c .before .before .before .before .before .before .before .before .before .before .before .before .before .before .before .before .before .settle .ensures) refl
+returns c =
+    let the-settle = c .before .before .before .before .before .before .before .before .before .before .before .before .before .before .before .before .before .settle in
+    outcome-is (the-settle .result .window) _ (the-settle .result .rebuilt) _ _ (the-settle .ensures) refl
 
 pub accept-spent-spec : {M : Type 1} → statement M
 accept-spent-spec =

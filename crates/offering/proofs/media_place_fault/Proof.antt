@@ -21,13 +21,19 @@ cast-i : tie.Need-cast-i
 cast-i c = search needs
 
 returns : tie.Need-returns
-returns c = λ p s b c₀ u. outside (c .before .before .before .before .before .before .before .before .args .w) (c .before .before .before .before .before .before .before .before .args .datagram .now) (stored (c .before .before .before .before .before .before .before .before .args .media .now) (c .before .before .before .before .before .before .before .before .args .timestamps .now) (c .before .before .before .before .before .before .before .before .args .marks .now) p s b c₀ u) (c .before .before .position .result) (c .before .before .position .ensures ∙ ap (ahead 16 (c .before .before .before .before .before .before .before .before .args .w .base)) (c .before .before .before .sequence-number .ensures)) (c .if1 .taken)
+returns c =
+    let the-args = c .before .before .before .before .before .before .before .before .args in
+    let the-position = c .before .before .position in
+    λ p s b c₀ u. outside (the-args .w) (the-args .datagram .now) (stored (the-args .media .now) (the-args .timestamps .now) (the-args .marks .now) p s b c₀ u) (the-position .result) (the-position .ensures ∙ ap (ahead 16 (the-args .w .base)) (c .before .before .before .sequence-number .ensures)) (c .if1 .taken)
 
 shared-slice-read-if2 : tie.Need-shared-slice-read-if2
 shared-slice-read-if2 c = search needs
 
 returns-2 : tie.Need-returns-2
-returns-2 c = λ p s b c₀ u. free (c .before .before .before .before .before .before .before .before .before .before .args .w) (c .before .before .before .before .before .before .before .before .before .before .args .datagram .now) (stored (c .before .before .before .before .before .before .before .before .before .before .args .media .now) (c .before .before .before .before .before .before .before .before .before .before .args .timestamps .now) (c .before .before .before .before .before .before .before .before .before .before .args .marks .now) p s b c₀ u) (c .before .before .before .before .position .result) (c .before .before .before .before .position .ensures ∙ ap (ahead 16 (c .before .before .before .before .before .before .before .before .before .before .args .w .base)) (c .before .before .before .before .before .sequence-number .ensures)) (c .before .before .if1 .left) (c .if2 .taken)
+returns-2 c =
+    let the-args = c .before .before .before .before .before .before .before .before .before .before .args in
+    let the-position = c .before .before .before .before .position in
+    λ p s b c₀ u. free (the-args .w) (the-args .datagram .now) (stored (the-args .media .now) (the-args .timestamps .now) (the-args .marks .now) p s b c₀ u) (the-position .result) (the-position .ensures ∙ ap (ahead 16 (the-args .w .base)) (c .before .before .before .before .before .sequence-number .ensures)) (c .before .before .if1 .left) (c .if2 .taken)
 
 mul-if3 : tie.Need-mul-if3
 mul-if3 c = search needs
@@ -45,10 +51,18 @@ same-at-requires : tie.Need-same-at-requires
 same-at-requires c κs = (row-ends (c .before .before .before .before .before .before .position .result) (c .before .before .before .before .before .before .before .before .before .before .before .before .args .w .n) (c .before .before .before .before .before .before .before .before .before .before .before .before .args .w .p) _ (c .before .before .before .before .if1 .left) (c .before .before .before .before .before .before .before .before .before .before .before .before .pre .2), omega (arith, c .before .before .before .before .before .before .before .before .before .before .before .before .pre .1))
 
 returns-3 : tie.Need-returns-3
-returns-3 c = λ p s b c₀ u. repeated (c .before .before .before .before .before .before .before .before .before .before .before .before .before .before .args .w) (c .before .before .before .before .before .before .before .before .before .before .before .before .before .before .args .datagram .now) (stored (c .before .before .before .before .before .before .before .before .before .before .before .before .before .before .args .media .now) (c .before .before .before .before .before .before .before .before .before .before .before .before .before .before .args .timestamps .now) (c .before .before .before .before .before .before .before .before .before .before .before .before .before .before .args .marks .now) p s b c₀ u) (c .before .before .before .before .before .before .before .before .position .result) (c .before .before .before .before .before .before .before .before .position .ensures ∙ ap (ahead 16 (c .before .before .before .before .before .before .before .before .before .before .before .before .before .before .args .w .base)) (c .before .before .before .before .before .before .before .before .before .sequence-number .ensures)) (c .before .before .before .before .before .before .if1 .left) (c .before .before .timestamp .result) (c .before .same-at .result) (c .before .before .before .before .if2 .left) (c .before .before .timestamp .ensures) (c .before .same-at .ensures) (c .before .before .before .before .before .before .before .before .before .before .before .before .before .before .pre .1) (c .if3 .taken)
+returns-3 c =
+    let the-args = c .before .before .before .before .before .before .before .before .before .before .before .before .before .before .args in
+    let the-position = c .before .before .before .before .before .before .before .before .position in
+    let the-timestamp = c .before .before .timestamp in
+    λ p s b c₀ u. repeated (the-args .w) (the-args .datagram .now) (stored (the-args .media .now) (the-args .timestamps .now) (the-args .marks .now) p s b c₀ u) (the-position .result) (the-position .ensures ∙ ap (ahead 16 (the-args .w .base)) (c .before .before .before .before .before .before .before .before .before .sequence-number .ensures)) (c .before .before .before .before .before .before .if1 .left) (the-timestamp .result) (c .before .same-at .result) (c .before .before .before .before .if2 .left) (the-timestamp .ensures) (c .before .same-at .ensures) (c .before .before .before .before .before .before .before .before .before .before .before .before .before .before .pre .1) (c .if3 .taken)
 
 returns-4 : tie.Need-returns-4
-returns-4 c = λ p s b c₀ u. differs (c .before .before .before .before .before .before .before .before .before .before .before .before .before .before .args .w) (c .before .before .before .before .before .before .before .before .before .before .before .before .before .before .args .datagram .now) (stored (c .before .before .before .before .before .before .before .before .before .before .before .before .before .before .args .media .now) (c .before .before .before .before .before .before .before .before .before .before .before .before .before .before .args .timestamps .now) (c .before .before .before .before .before .before .before .before .before .before .before .before .before .before .args .marks .now) p s b c₀ u) (c .before .before .before .before .before .before .before .before .position .result) (c .before .before .before .before .before .before .before .before .position .ensures ∙ ap (ahead 16 (c .before .before .before .before .before .before .before .before .before .before .before .before .before .before .args .w .base)) (c .before .before .before .before .before .before .before .before .before .sequence-number .ensures)) (c .before .before .before .before .before .before .if1 .left) (c .before .before .timestamp .result) (c .before .same-at .result) (c .before .before .before .before .if2 .left) (c .before .before .timestamp .ensures) (c .before .same-at .ensures) (c .before .before .before .before .before .before .before .before .before .before .before .before .before .before .pre .1) (c .if3 .left)
+returns-4 c =
+    let the-args = c .before .before .before .before .before .before .before .before .before .before .before .before .before .before .args in
+    let the-position = c .before .before .before .before .before .before .before .before .position in
+    let the-timestamp = c .before .before .timestamp in
+    λ p s b c₀ u. differs (the-args .w) (the-args .datagram .now) (stored (the-args .media .now) (the-args .timestamps .now) (the-args .marks .now) p s b c₀ u) (the-position .result) (the-position .ensures ∙ ap (ahead 16 (the-args .w .base)) (c .before .before .before .before .before .before .before .before .before .sequence-number .ensures)) (c .before .before .before .before .before .before .if1 .left) (the-timestamp .result) (c .before .same-at .result) (c .before .before .before .before .if2 .left) (the-timestamp .ensures) (c .before .same-at .ensures) (c .before .before .before .before .before .before .before .before .before .before .before .before .before .before .pre .1) (c .if3 .left)
 
 pub media-place-fault-spec : {M : Type 1} → statement M
 media-place-fault-spec =

@@ -12,19 +12,31 @@ standing-requires : tie.Need-standing-requires
 standing-requires c κs = search needs
 
 returns : tie.Need-returns
-returns c = standing-refuses (c .before .before .before .before .before .before .before .before .before .before .before .args .w) (stored (c .before .before .before .before .before .before .before .before .before .before .before .args .media .now) (c .before .before .before .before .before .before .before .before .before .before .before .args .timestamps .now) (c .before .before .before .before .before .before .before .before .before .before .before .args .marks .now) (c .before .before .before .before .before .before .before .before .before .before .before .args .parity .now) (c .before .before .before .before .before .before .before .before .before .before .before .args .streams .now) (c .before .before .before .before .before .before .before .before .before .before .before .args .snbases .now) (c .before .before .before .before .before .before .before .before .before .before .before .args .recoveries .now) (c .before .before .before .before .before .before .before .before .before .before .before .args .uses .now)) (parityTests (c .before .before .before .before .before .before .before .before .before .before .before .args .stream) (c .before .before .before .before .before .before .before .before .before .before .before .args .w .l) (c .before .before .before .before .before .before .before .before .before .before .before .args .w .d) (c .before .before .before .before .before .before .before .before .before .before .before .args .w .p) (c .before .before .before .before .before .before .before .before .before .before .before .args .datagram .now)) (parityPlaceTests (c .before .before .before .before .before .before .before .before .before .before .before .args .w) (c .before .before .before .before .before .before .before .before .before .before .before .args .stream) (c .before .before .before .before .before .before .before .before .before .before .before .args .datagram .now) (stored (c .before .before .before .before .before .before .before .before .before .before .before .args .media .now) (c .before .before .before .before .before .before .before .before .before .before .before .args .timestamps .now) (c .before .before .before .before .before .before .before .before .before .before .before .args .marks .now) (c .before .before .before .before .before .before .before .before .before .before .before .args .parity .now) (c .before .before .before .before .before .before .before .before .before .before .before .args .streams .now) (c .before .before .before .before .before .before .before .before .before .before .before .args .snbases .now) (c .before .before .before .before .before .before .before .before .before .before .before .args .recoveries .now) (c .before .before .before .before .before .before .before .before .before .before .before .args .uses .now))) (seven (c .before .before .before .before .before .before .before .before .before .before .before .args .stream) (c .before .before .before .before .before .before .before .before .before .before .before .args .w .l) (c .before .before .before .before .before .before .before .before .before .before .before .args .w .d) (c .before .before .before .before .before .before .before .before .before .before .before .args .w .p) (c .before .before .before .before .before .before .before .before .before .before .before .args .datagram .now)) (c .before .standing .result) (c .before .standing .ensures) (c .if1 .taken)
+returns c =
+    let the-args = c .before .before .before .before .before .before .before .before .before .before .before .args in
+    standing-refuses (the-args .w) (stored (the-args .media .now) (the-args .timestamps .now) (the-args .marks .now) (the-args .parity .now) (the-args .streams .now) (the-args .snbases .now) (the-args .recoveries .now) (the-args .uses .now)) (parityTests (the-args .stream) (the-args .w .l) (the-args .w .d) (the-args .w .p) (the-args .datagram .now)) (parityPlaceTests (the-args .w) (the-args .stream) (the-args .datagram .now) (stored (the-args .media .now) (the-args .timestamps .now) (the-args .marks .now) (the-args .parity .now) (the-args .streams .now) (the-args .snbases .now) (the-args .recoveries .now) (the-args .uses .now))) (seven (the-args .stream) (the-args .w .l) (the-args .w .d) (the-args .w .p) (the-args .datagram .now)) (c .before .standing .result) (c .before .standing .ensures) (c .if1 .taken)
 
 parity-fault-requires : tie.Need-parity-fault-requires
 parity-fault-requires c κs = search needs
 
 returns-2 : tie.Need-returns-2
-returns-2 c = datagram-refuses (c .before .before .before .before .before .before .before .before .before .before .before .before .before .args .w) (stored (c .before .before .before .before .before .before .before .before .before .before .before .before .before .args .media .now) (c .before .before .before .before .before .before .before .before .before .before .before .before .before .args .timestamps .now) (c .before .before .before .before .before .before .before .before .before .before .before .before .before .args .marks .now) (c .before .before .before .before .before .before .before .before .before .before .before .before .before .args .parity .now) (c .before .before .before .before .before .before .before .before .before .before .before .before .before .args .streams .now) (c .before .before .before .before .before .before .before .before .before .before .before .before .before .args .snbases .now) (c .before .before .before .before .before .before .before .before .before .before .before .before .before .args .recoveries .now) (c .before .before .before .before .before .before .before .before .before .before .before .before .before .args .uses .now)) (parityTests (c .before .before .before .before .before .before .before .before .before .before .before .before .before .args .stream) (c .before .before .before .before .before .before .before .before .before .before .before .before .before .args .w .l) (c .before .before .before .before .before .before .before .before .before .before .before .before .before .args .w .d) (c .before .before .before .before .before .before .before .before .before .before .before .before .before .args .w .p) (c .before .before .before .before .before .before .before .before .before .before .before .before .before .args .datagram .now)) (parityPlaceTests (c .before .before .before .before .before .before .before .before .before .before .before .before .before .args .w) (c .before .before .before .before .before .before .before .before .before .before .before .before .before .args .stream) (c .before .before .before .before .before .before .before .before .before .before .before .before .before .args .datagram .now) (stored (c .before .before .before .before .before .before .before .before .before .before .before .before .before .args .media .now) (c .before .before .before .before .before .before .before .before .before .before .before .before .before .args .timestamps .now) (c .before .before .before .before .before .before .before .before .before .before .before .before .before .args .marks .now) (c .before .before .before .before .before .before .before .before .before .before .before .before .before .args .parity .now) (c .before .before .before .before .before .before .before .before .before .before .before .before .before .args .streams .now) (c .before .before .before .before .before .before .before .before .before .before .before .before .before .args .snbases .now) (c .before .before .before .before .before .before .before .before .before .before .before .before .before .args .recoveries .now) (c .before .before .before .before .before .before .before .before .before .before .before .before .before .args .uses .now))) (seven (c .before .before .before .before .before .before .before .before .before .before .before .before .before .args .stream) (c .before .before .before .before .before .before .before .before .before .before .before .before .before .args .w .l) (c .before .before .before .before .before .before .before .before .before .before .before .before .before .args .w .d) (c .before .before .before .before .before .before .before .before .before .before .before .before .before .args .w .p) (c .before .before .before .before .before .before .before .before .before .before .before .before .before .args .datagram .now)) (c .before .before .before .standing .result) (c .before .before .before .standing .ensures) (c .before .before .if1 .left) (c .before .parity-fault .result) (c .before .parity-fault .ensures) (c .if2 .taken)
+returns-2 c =
+    let the-args = c .before .before .before .before .before .before .before .before .before .before .before .before .before .args in
+    let the-standing = c .before .before .before .standing in
+    datagram-refuses (the-args .w) (stored (the-args .media .now) (the-args .timestamps .now) (the-args .marks .now) (the-args .parity .now) (the-args .streams .now) (the-args .snbases .now) (the-args .recoveries .now) (the-args .uses .now)) (parityTests (the-args .stream) (the-args .w .l) (the-args .w .d) (the-args .w .p) (the-args .datagram .now)) (parityPlaceTests (the-args .w) (the-args .stream) (the-args .datagram .now) (stored (the-args .media .now) (the-args .timestamps .now) (the-args .marks .now) (the-args .parity .now) (the-args .streams .now) (the-args .snbases .now) (the-args .recoveries .now) (the-args .uses .now))) (seven (the-args .stream) (the-args .w .l) (the-args .w .d) (the-args .w .p) (the-args .datagram .now)) (the-standing .result) (the-standing .ensures) (c .before .before .if1 .left) (c .before .parity-fault .result) (c .before .parity-fault .ensures) (c .if2 .taken)
 
 parity-place-fault-requires : tie.Need-parity-place-fault-requires
-parity-place-fault-requires c κs = let h = standing-here (c .before .before .before .before .before .before .before .before .before .before .before .before .before .args .w) (stored (c .before .before .before .before .before .before .before .before .before .before .before .before .before .args .media .now) (c .before .before .before .before .before .before .before .before .before .before .before .before .before .args .timestamps .now) (c .before .before .before .before .before .before .before .before .before .before .before .before .before .args .marks .now) (c .before .before .before .before .before .before .before .before .before .before .before .before .before .args .parity .now) (c .before .before .before .before .before .before .before .before .before .before .before .before .before .args .streams .now) (c .before .before .before .before .before .before .before .before .before .before .before .before .before .args .snbases .now) (c .before .before .before .before .before .before .before .before .before .before .before .before .before .args .recoveries .now) (c .before .before .before .before .before .before .before .before .before .before .before .before .before .args .uses .now)) (parityTests (c .before .before .before .before .before .before .before .before .before .before .before .before .before .args .stream) (c .before .before .before .before .before .before .before .before .before .before .before .before .before .args .w .l) (c .before .before .before .before .before .before .before .before .before .before .before .before .before .args .w .d) (c .before .before .before .before .before .before .before .before .before .before .before .before .before .args .w .p) (c .before .before .before .before .before .before .before .before .before .before .before .before .before .args .datagram .now)) (parityPlaceTests (c .before .before .before .before .before .before .before .before .before .before .before .before .before .args .w) (c .before .before .before .before .before .before .before .before .before .before .before .before .before .args .stream) (c .before .before .before .before .before .before .before .before .before .before .before .before .before .args .datagram .now) (stored (c .before .before .before .before .before .before .before .before .before .before .before .before .before .args .media .now) (c .before .before .before .before .before .before .before .before .before .before .before .before .before .args .timestamps .now) (c .before .before .before .before .before .before .before .before .before .before .before .before .before .args .marks .now) (c .before .before .before .before .before .before .before .before .before .before .before .before .before .args .parity .now) (c .before .before .before .before .before .before .before .before .before .before .before .before .before .args .streams .now) (c .before .before .before .before .before .before .before .before .before .before .before .before .before .args .snbases .now) (c .before .before .before .before .before .before .before .before .before .before .before .before .before .args .recoveries .now) (c .before .before .before .before .before .before .before .before .before .before .before .before .before .args .uses .now))) (seven (c .before .before .before .before .before .before .before .before .before .before .before .before .before .args .stream) (c .before .before .before .before .before .before .before .before .before .before .before .before .before .args .w .l) (c .before .before .before .before .before .before .before .before .before .before .before .before .before .args .w .d) (c .before .before .before .before .before .before .before .before .before .before .before .before .before .args .w .p) (c .before .before .before .before .before .before .before .before .before .before .before .before .before .args .datagram .now)) (c .before .before .before .standing .result) (c .before .before .before .standing .ensures) (c .before .before .if1 .left) in (h .set-up, h .sized .marks-long, h .sized .parity-long, h .sized .streams-long, h .sized .snbases-long, h .sized .recoveries-long, h .sized .uses-long, parity-long (c .before .before .before .before .before .before .before .before .before .before .before .before .before .args .w) (c .before .before .before .before .before .before .before .before .before .before .before .before .before .args .stream) (c .before .before .before .before .before .before .before .before .before .before .before .before .before .args .datagram .now) (stored (c .before .before .before .before .before .before .before .before .before .before .before .before .before .args .media .now) (c .before .before .before .before .before .before .before .before .before .before .before .before .before .args .timestamps .now) (c .before .before .before .before .before .before .before .before .before .before .before .before .before .args .marks .now) (c .before .before .before .before .before .before .before .before .before .before .before .before .before .args .parity .now) (c .before .before .before .before .before .before .before .before .before .before .before .before .before .args .streams .now) (c .before .before .before .before .before .before .before .before .before .before .before .before .before .args .snbases .now) (c .before .before .before .before .before .before .before .before .before .before .before .before .before .args .recoveries .now) (c .before .before .before .before .before .before .before .before .before .before .before .before .before .args .uses .now)) (c .before .parity-fault .result) (c .before .parity-fault .ensures) (c .if2 .left))
+parity-place-fault-requires c κs =
+    let the-args = c .before .before .before .before .before .before .before .before .before .before .before .before .before .args in
+    let the-standing = c .before .before .before .standing in
+    let h = standing-here (the-args .w) (stored (the-args .media .now) (the-args .timestamps .now) (the-args .marks .now) (the-args .parity .now) (the-args .streams .now) (the-args .snbases .now) (the-args .recoveries .now) (the-args .uses .now)) (parityTests (the-args .stream) (the-args .w .l) (the-args .w .d) (the-args .w .p) (the-args .datagram .now)) (parityPlaceTests (the-args .w) (the-args .stream) (the-args .datagram .now) (stored (the-args .media .now) (the-args .timestamps .now) (the-args .marks .now) (the-args .parity .now) (the-args .streams .now) (the-args .snbases .now) (the-args .recoveries .now) (the-args .uses .now))) (seven (the-args .stream) (the-args .w .l) (the-args .w .d) (the-args .w .p) (the-args .datagram .now)) (the-standing .result) (the-standing .ensures) (c .before .before .if1 .left) in (h .set-up, h .sized .marks-long, h .sized .parity-long, h .sized .streams-long, h .sized .snbases-long, h .sized .recoveries-long, h .sized .uses-long, parity-long (the-args .w) (the-args .stream) (the-args .datagram .now) (stored (the-args .media .now) (the-args .timestamps .now) (the-args .marks .now) (the-args .parity .now) (the-args .streams .now) (the-args .snbases .now) (the-args .recoveries .now) (the-args .uses .now)) (c .before .parity-fault .result) (c .before .parity-fault .ensures) (c .if2 .left))
 
 returns-3 : tie.Need-returns-3
-returns-3 c = place-decides (c .before .before .before .before .before .before .before .before .before .before .before .before .before .before .args .w) (stored (c .before .before .before .before .before .before .before .before .before .before .before .before .before .before .args .media .now) (c .before .before .before .before .before .before .before .before .before .before .before .before .before .before .args .timestamps .now) (c .before .before .before .before .before .before .before .before .before .before .before .before .before .before .args .marks .now) (c .before .before .before .before .before .before .before .before .before .before .before .before .before .before .args .parity .now) (c .before .before .before .before .before .before .before .before .before .before .before .before .before .before .args .streams .now) (c .before .before .before .before .before .before .before .before .before .before .before .before .before .before .args .snbases .now) (c .before .before .before .before .before .before .before .before .before .before .before .before .before .before .args .recoveries .now) (c .before .before .before .before .before .before .before .before .before .before .before .before .before .before .args .uses .now)) (parityTests (c .before .before .before .before .before .before .before .before .before .before .before .before .before .before .args .stream) (c .before .before .before .before .before .before .before .before .before .before .before .before .before .before .args .w .l) (c .before .before .before .before .before .before .before .before .before .before .before .before .before .before .args .w .d) (c .before .before .before .before .before .before .before .before .before .before .before .before .before .before .args .w .p) (c .before .before .before .before .before .before .before .before .before .before .before .before .before .before .args .datagram .now)) (parityPlaceTests (c .before .before .before .before .before .before .before .before .before .before .before .before .before .before .args .w) (c .before .before .before .before .before .before .before .before .before .before .before .before .before .before .args .stream) (c .before .before .before .before .before .before .before .before .before .before .before .before .before .before .args .datagram .now) (stored (c .before .before .before .before .before .before .before .before .before .before .before .before .before .before .args .media .now) (c .before .before .before .before .before .before .before .before .before .before .before .before .before .before .args .timestamps .now) (c .before .before .before .before .before .before .before .before .before .before .before .before .before .before .args .marks .now) (c .before .before .before .before .before .before .before .before .before .before .before .before .before .before .args .parity .now) (c .before .before .before .before .before .before .before .before .before .before .before .before .before .before .args .streams .now) (c .before .before .before .before .before .before .before .before .before .before .before .before .before .before .args .snbases .now) (c .before .before .before .before .before .before .before .before .before .before .before .before .before .before .args .recoveries .now) (c .before .before .before .before .before .before .before .before .before .before .before .before .before .before .args .uses .now))) (seven (c .before .before .before .before .before .before .before .before .before .before .before .before .before .before .args .stream) (c .before .before .before .before .before .before .before .before .before .before .before .before .before .before .args .w .l) (c .before .before .before .before .before .before .before .before .before .before .before .before .before .before .args .w .d) (c .before .before .before .before .before .before .before .before .before .before .before .before .before .before .args .w .p) (c .before .before .before .before .before .before .before .before .before .before .before .before .before .before .args .datagram .now)) (c .before .before .before .before .standing .result) (c .before .before .before .before .standing .ensures) (c .before .before .before .if1 .left) (c .before .before .parity-fault .result) (c .parity-place-fault .result) (c .before .before .parity-fault .ensures) (c .before .if2 .left) (c .parity-place-fault .ensures (c .before .before .before .before .before .before .before .before .before .before .before .before .before .before .args .media .now) (c .before .before .before .before .before .before .before .before .before .before .before .before .before .before .args .timestamps .now))
+returns-3 c =
+    let the-args = c .before .before .before .before .before .before .before .before .before .before .before .before .before .before .args in
+    let the-standing = c .before .before .before .before .standing in
+    let the-parity-fault = c .before .before .parity-fault in
+    place-decides (the-args .w) (stored (the-args .media .now) (the-args .timestamps .now) (the-args .marks .now) (the-args .parity .now) (the-args .streams .now) (the-args .snbases .now) (the-args .recoveries .now) (the-args .uses .now)) (parityTests (the-args .stream) (the-args .w .l) (the-args .w .d) (the-args .w .p) (the-args .datagram .now)) (parityPlaceTests (the-args .w) (the-args .stream) (the-args .datagram .now) (stored (the-args .media .now) (the-args .timestamps .now) (the-args .marks .now) (the-args .parity .now) (the-args .streams .now) (the-args .snbases .now) (the-args .recoveries .now) (the-args .uses .now))) (seven (the-args .stream) (the-args .w .l) (the-args .w .d) (the-args .w .p) (the-args .datagram .now)) (the-standing .result) (the-standing .ensures) (c .before .before .before .if1 .left) (the-parity-fault .result) (c .parity-place-fault .result) (the-parity-fault .ensures) (c .before .if2 .left) (c .parity-place-fault .ensures (the-args .media .now) (the-args .timestamps .now))
 
 pub parity-offer-fault-spec : {M : Type 1} → statement M
 parity-offer-fault-spec =

@@ -8,7 +8,9 @@ standing-fault-requires : tie.Need-standing-fault-requires
 standing-fault-requires c κs = search needs
 
 returns : tie.Need-returns
-returns c = c .standing-fault .ensures (c .before .before .before .before .before .before .before .before .before .args .media .now) (c .before .before .before .before .before .before .before .before .before .args .timestamps .now) (c .before .before .before .before .before .before .before .before .before .args .parity .now) (c .before .before .before .before .before .before .before .before .before .args .recoveries .now) refl refl refl refl
+returns c =
+    let the-args = c .before .before .before .before .before .before .before .before .before .args in
+    c .standing-fault .ensures (the-args .media .now) (the-args .timestamps .now) (the-args .parity .now) (the-args .recoveries .now) refl refl refl refl
 
 pub standing-spec : {M : Type 1} → statement M
 standing-spec = tie.close (tie.spec standing-fault-requires returns)

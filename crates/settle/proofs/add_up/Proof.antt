@@ -26,31 +26,38 @@ na-of-requires : tie.Need-na-of-requires
 na-of-requires c κs = search needs
 
 members-present-requires : tie.Need-members-present-requires
-members-present-requires c κs = members-asked (c .before .before .before .before .before .before .before .args .w .base) (c .before .before .before .before .before .before .before .args .w .l) (c .before .before .before .before .before .before .before .args .w .d) (c .before .before .before .before .before .before .before .args .stream) (c .before .before .before .before .before .before .before .args .start) (c .before .before .before .before .before .before .before .args .w .n) (c .before .before .position .result) (c .before .offset-of .result) (c .na-of .result) (omega (arith, c .before .before .before .before .before .before .before .good)) (c .before .before .before .before .before .before .before .pre .0 .profile) (c .before .before .before .before .before .before .before .pre .0 .n-high) (c .before .before .before .before .before .before .before .pre .1) (c .before .before .position .ensures) (c .before .offset-of .ensures) (c .na-of .ensures) (c .before .before .before .before .before .before .before .args .marks .now) (c .before .before .before .before .before .before .before .pre .5)
+members-present-requires c κs =
+    let the-args = c .before .before .before .before .before .before .before .args in
+    members-asked (the-args .w .base) (the-args .w .l) (the-args .w .d) (the-args .stream) (the-args .start) (the-args .w .n) (c .before .before .position .result) (c .before .offset-of .result) (c .na-of .result) (omega (arith, c .before .before .before .before .before .before .before .good)) (c .before .before .before .before .before .before .before .pre .0 .profile) (c .before .before .before .before .before .before .before .pre .0 .n-high) (c .before .before .before .before .before .before .before .pre .1) (c .before .before .position .ensures) (c .before .offset-of .ensures) (c .na-of .ensures) (the-args .marks .now) (c .before .before .before .before .before .before .before .pre .5)
 
 slice-aggregate-xor-rows : tie.Need-slice-aggregate-xor-rows
 slice-aggregate-xor-rows c = search needs
 
 xor-rows-requires : tie.Need-xor-rows-requires
-xor-rows-requires c κs = (c .before .before .before .before .before .before .before .before .before .before .before .pre .2, rows-asked (c .before .before .before .before .before .before .before .before .before .before .before .args .w .base) (c .before .before .before .before .before .before .before .before .before .before .before .args .w .l) (c .before .before .before .before .before .before .before .before .before .before .before .args .w .d) (c .before .before .before .before .before .before .before .before .before .before .before .args .stream) (c .before .before .before .before .before .before .before .before .before .before .before .args .start) (c .before .before .before .before .before .before .before .before .before .before .before .args .w .n) (c .before .before .before .before .before .before .position .result) (c .before .before .before .before .before .offset-of .result) (c .before .before .before .before .na-of .result) (omega (arith, c .before .before .before .before .before .before .before .before .before .before .before .good)) (c .before .before .before .before .before .before .before .before .before .before .before .pre .0 .profile) (c .before .before .before .before .before .before .before .before .before .before .before .pre .0 .n-high) (c .before .before .before .before .before .before .before .before .before .before .before .pre .1) (c .before .before .before .before .before .before .position .ensures) (c .before .before .before .before .before .offset-of .ensures) (c .before .before .before .before .na-of .ensures) (c .before .before .before .before .before .before .before .before .before .before .before .args .marks .now) (c .before .before .before .members-present .result .rows) (c .before .before .before .members-present .result .n) (c .before .before .before .members-present .ensures .0) (c .before .before .before .members-present .ensures .1) (c .before .before .before .members-present .ensures .2) (c .before .before .before .before .before .before .before .before .before .before .before .args .w .p) (c .before .before .before .before .before .before .before .before .before .before .before .args .media .now) (c .before .before .before .before .before .before .before .before .before .before .before .pre .3))
+xor-rows-requires c κs =
+    let the-args = c .before .before .before .before .before .before .before .before .before .before .before .args in
+    (c .before .before .before .before .before .before .before .before .before .before .before .pre .2, rows-asked (the-args .w .base) (the-args .w .l) (the-args .w .d) (the-args .stream) (the-args .start) (the-args .w .n) (c .before .before .before .before .before .before .position .result) (c .before .before .before .before .before .offset-of .result) (c .before .before .before .before .na-of .result) (omega (arith, c .before .before .before .before .before .before .before .before .before .before .before .good)) (c .before .before .before .before .before .before .before .before .before .before .before .pre .0 .profile) (c .before .before .before .before .before .before .before .before .before .before .before .pre .0 .n-high) (c .before .before .before .before .before .before .before .before .before .before .before .pre .1) (c .before .before .before .before .before .before .position .ensures) (c .before .before .before .before .before .offset-of .ensures) (c .before .before .before .before .na-of .ensures) (the-args .marks .now) (c .before .before .before .members-present .result .rows) (c .before .before .before .members-present .result .n) (c .before .before .before .members-present .ensures .0) (c .before .before .before .members-present .ensures .1) (c .before .before .before .members-present .ensures .2) (the-args .w .p) (the-args .media .now) (c .before .before .before .before .before .before .before .before .before .before .before .pre .3))
 
 slice-aggregate-xor-timestamps : tie.Need-slice-aggregate-xor-timestamps
 slice-aggregate-xor-timestamps c = search needs
 
 xor-timestamps-requires : tie.Need-xor-timestamps-requires
-xor-timestamps-requires c κs = stamps-asked (c .before .before .before .before .before .before .before .before .before .before .before .before .before .before .before .args .w .base) (c .before .before .before .before .before .before .before .before .before .before .before .before .before .before .before .args .w .l) (c .before .before .before .before .before .before .before .before .before .before .before .before .before .before .before .args .w .d) (c .before .before .before .before .before .before .before .before .before .before .before .before .before .before .before .args .stream) (c .before .before .before .before .before .before .before .before .before .before .before .before .before .before .before .args .start) (c .before .before .before .before .before .before .before .before .before .before .before .before .before .before .before .args .w .n) (c .before .before .before .before .before .before .before .before .before .before .position .result) (c .before .before .before .before .before .before .before .before .before .offset-of .result) (c .before .before .before .before .before .before .before .before .na-of .result) (omega (arith, c .before .before .before .before .before .before .before .before .before .before .before .before .before .before .before .good)) (c .before .before .before .before .before .before .before .before .before .before .before .before .before .before .before .pre .0 .profile) (c .before .before .before .before .before .before .before .before .before .before .before .before .before .before .before .pre .0 .n-high) (c .before .before .before .before .before .before .before .before .before .before .before .before .before .before .before .pre .1) (c .before .before .before .before .before .before .before .before .before .before .position .ensures) (c .before .before .before .before .before .before .before .before .before .offset-of .ensures) (c .before .before .before .before .before .before .before .before .na-of .ensures) (c .before .before .before .before .before .before .before .before .before .before .before .before .before .before .before .args .marks .now) (c .before .before .before .before .before .before .before .members-present .result .rows) (c .before .before .before .before .before .before .before .members-present .result .n) (c .before .before .before .before .before .before .before .members-present .ensures .0) (c .before .before .before .before .before .before .before .members-present .ensures .1) (c .before .before .before .before .before .before .before .members-present .ensures .2) (c .before .before .before .before .before .before .before .before .before .before .before .before .before .before .before .args .timestamps .now) (c .before .before .before .before .before .before .before .before .before .before .before .before .before .before .before .pre .4)
+xor-timestamps-requires c κs =
+    let the-args = c .before .before .before .before .before .before .before .before .before .before .before .before .before .before .before .args in
+    stamps-asked (the-args .w .base) (the-args .w .l) (the-args .w .d) (the-args .stream) (the-args .start) (the-args .w .n) (c .before .before .before .before .before .before .before .before .before .before .position .result) (c .before .before .before .before .before .before .before .before .before .offset-of .result) (c .before .before .before .before .before .before .before .before .na-of .result) (omega (arith, c .before .before .before .before .before .before .before .before .before .before .before .before .before .before .before .good)) (c .before .before .before .before .before .before .before .before .before .before .before .before .before .before .before .pre .0 .profile) (c .before .before .before .before .before .before .before .before .before .before .before .before .before .before .before .pre .0 .n-high) (c .before .before .before .before .before .before .before .before .before .before .before .before .before .before .before .pre .1) (c .before .before .before .before .before .before .before .before .before .before .position .ensures) (c .before .before .before .before .before .before .before .before .before .offset-of .ensures) (c .before .before .before .before .before .before .before .before .na-of .ensures) (the-args .marks .now) (c .before .before .before .before .before .before .before .members-present .result .rows) (c .before .before .before .before .before .before .before .members-present .result .n) (c .before .before .before .before .before .before .before .members-present .ensures .0) (c .before .before .before .before .before .before .before .members-present .ensures .1) (c .before .before .before .before .before .before .before .members-present .ensures .2) (the-args .timestamps .now) (c .before .before .before .before .before .before .before .before .before .before .before .before .before .before .before .pre .4)
 
 same-length : tie.Need-same-length
 same-length c = search needs
 
 returns : tie.Need-returns
 returns c =
-    let e = held (c .before .before .before .before .before .before .before .before .before .before .before .before .before .before .before .before .args .w .base) (c .before .before .before .before .before .before .before .before .before .before .before .before .before .before .before .before .args .w .l) (c .before .before .before .before .before .before .before .before .before .before .before .before .before .before .before .before .args .w .d) (c .before .before .before .before .before .before .before .before .before .before .before .before .before .before .before .before .args .stream) (c .before .before .before .before .before .before .before .before .before .before .before .before .before .before .before .before .args .start) (c .before .before .before .before .before .before .before .before .before .before .before .before .before .before .before .before .args .w .n) (c .before .before .before .before .before .before .before .before .before .before .before .position .result) (c .before .before .before .before .before .before .before .before .before .before .offset-of .result) (c .before .before .before .before .before .before .before .before .before .na-of .result) (omega (arith, c .before .before .before .before .before .before .before .before .before .before .before .before .before .before .before .before .good)) (c .before .before .before .before .before .before .before .before .before .before .before .before .before .before .before .before .pre .0 .profile) (c .before .before .before .before .before .before .before .before .before .before .before .before .before .before .before .before .pre .0 .n-high) (c .before .before .before .before .before .before .before .before .before .before .before .before .before .before .before .before .pre .1) (c .before .before .before .before .before .before .before .before .before .before .before .position .ensures) (c .before .before .before .before .before .before .before .before .before .before .offset-of .ensures) (c .before .before .before .before .before .before .before .before .before .na-of .ensures) (c .before .before .before .before .before .before .before .before .before .before .before .before .before .before .before .before .args .marks .now) (c .before .before .before .before .before .before .before .before .members-present .result .rows) (c .before .before .before .before .before .before .before .before .members-present .result .n) (c .before .before .before .before .before .before .before .before .members-present .ensures .0) (c .before .before .before .before .before .before .before .before .members-present .ensures .1) (c .before .before .before .before .before .before .before .before .members-present .ensures .2) in
-    let b = held-below (c .before .before .before .before .before .before .before .before .before .before .before .before .before .before .before .before .args .w .base) (c .before .before .before .before .before .before .before .before .before .before .before .before .before .before .before .before .args .w .l) (c .before .before .before .before .before .before .before .before .before .before .before .before .before .before .before .before .args .w .d) (c .before .before .before .before .before .before .before .before .before .before .before .before .before .before .before .before .args .stream) (c .before .before .before .before .before .before .before .before .before .before .before .before .before .before .before .before .args .start) (c .before .before .before .before .before .before .before .before .before .before .before .before .before .before .before .before .args .w .n) (c .before .before .before .before .before .before .before .before .before .before .before .position .result) (c .before .before .before .before .before .before .before .before .before .before .offset-of .result) (c .before .before .before .before .before .before .before .before .before .na-of .result) (omega (arith, c .before .before .before .before .before .before .before .before .before .before .before .before .before .before .before .before .good)) (c .before .before .before .before .before .before .before .before .before .before .before .before .before .before .before .before .pre .0 .profile) (c .before .before .before .before .before .before .before .before .before .before .before .before .before .before .before .before .pre .0 .n-high) (c .before .before .before .before .before .before .before .before .before .before .before .before .before .before .before .before .pre .1) (c .before .before .before .before .before .before .before .before .before .before .before .position .ensures) (c .before .before .before .before .before .before .before .before .before .before .offset-of .ensures) (c .before .before .before .before .before .before .before .before .before .na-of .ensures) (c .before .before .before .before .before .before .before .before .before .before .before .before .before .before .before .before .args .marks .now) (c .before .before .before .before .before .before .before .before .members-present .result .rows) (c .before .before .before .before .before .before .before .before .members-present .result .n) (c .before .before .before .before .before .before .before .before .members-present .ensures .0) (c .before .before .before .before .before .before .before .before .members-present .ensures .1) (c .before .before .before .before .before .before .before .before .members-present .ensures .2) in (
-      c .xor-timestamps .ensures ∙ ap (λ (l : List ℕ). bitXor (c .before .before .before .before .before .before .before .before .before .before .before .before .before .before .before .before .args .stamps) (xorAll (map (λ i. getD (c .before .before .before .before .before .before .before .before .before .before .before .before .before .before .before .before .args .timestamps .now) i 0) l))) e,
+    let the-args = c .before .before .before .before .before .before .before .before .before .before .before .before .before .before .before .before .args in
+    let e = held (the-args .w .base) (the-args .w .l) (the-args .w .d) (the-args .stream) (the-args .start) (the-args .w .n) (c .before .before .before .before .before .before .before .before .before .before .before .position .result) (c .before .before .before .before .before .before .before .before .before .before .offset-of .result) (c .before .before .before .before .before .before .before .before .before .na-of .result) (omega (arith, c .before .before .before .before .before .before .before .before .before .before .before .before .before .before .before .before .good)) (c .before .before .before .before .before .before .before .before .before .before .before .before .before .before .before .before .pre .0 .profile) (c .before .before .before .before .before .before .before .before .before .before .before .before .before .before .before .before .pre .0 .n-high) (c .before .before .before .before .before .before .before .before .before .before .before .before .before .before .before .before .pre .1) (c .before .before .before .before .before .before .before .before .before .before .before .position .ensures) (c .before .before .before .before .before .before .before .before .before .before .offset-of .ensures) (c .before .before .before .before .before .before .before .before .before .na-of .ensures) (the-args .marks .now) (c .before .before .before .before .before .before .before .before .members-present .result .rows) (c .before .before .before .before .before .before .before .before .members-present .result .n) (c .before .before .before .before .before .before .before .before .members-present .ensures .0) (c .before .before .before .before .before .before .before .before .members-present .ensures .1) (c .before .before .before .before .before .before .before .before .members-present .ensures .2) in
+    let b = held-below (the-args .w .base) (the-args .w .l) (the-args .w .d) (the-args .stream) (the-args .start) (the-args .w .n) (c .before .before .before .before .before .before .before .before .before .before .before .position .result) (c .before .before .before .before .before .before .before .before .before .before .offset-of .result) (c .before .before .before .before .before .before .before .before .before .na-of .result) (omega (arith, c .before .before .before .before .before .before .before .before .before .before .before .before .before .before .before .before .good)) (c .before .before .before .before .before .before .before .before .before .before .before .before .before .before .before .before .pre .0 .profile) (c .before .before .before .before .before .before .before .before .before .before .before .before .before .before .before .before .pre .0 .n-high) (c .before .before .before .before .before .before .before .before .before .before .before .before .before .before .before .before .pre .1) (c .before .before .before .before .before .before .before .before .before .before .before .position .ensures) (c .before .before .before .before .before .before .before .before .before .before .offset-of .ensures) (c .before .before .before .before .before .before .before .before .before .na-of .ensures) (the-args .marks .now) (c .before .before .before .before .before .before .before .before .members-present .result .rows) (c .before .before .before .before .before .before .before .before .members-present .result .n) (c .before .before .before .before .before .before .before .before .members-present .ensures .0) (c .before .before .before .before .before .before .before .before .members-present .ensures .1) (c .before .before .before .before .before .before .before .before .members-present .ensures .2) in (
+      c .xor-timestamps .ensures ∙ ap (λ (l : List ℕ). bitXor (the-args .stamps) (xorAll (map (λ i. getD (the-args .timestamps .now) i 0) l))) e,
       c .before .before .before .before .xor-rows .ensures
-          ∙ rows-sum (c .before .before .before .before .before .before .before .before .before .before .before .before .before .before .before .before .args .w .p) (c .before .before .before .before .before .before .before .before .before .before .before .before .before .before .before .before .args .media .now) (c .before .before .before .before .before .before .before .before .before .before .before .before .before .before .before .before .args .to) (c .before .before .before .before .before .before .before .before .before .before .before .before .before .before .before .before .args .sum .now) (c .before .before .before .before .before .before .before .before .before .before .before .before .before .before .before .before .pre .2) (take (c .before .before .before .before .before .before .before .before .members-present .result .n) (c .before .before .before .before .before .before .before .before .members-present .result .rows)) (below-ends (c .before .before .before .before .before .before .before .before .before .before .before .before .before .before .before .before .args .w .n) (c .before .before .before .before .before .before .before .before .before .before .before .before .before .before .before .before .args .w .p) (c .before .before .before .before .before .before .before .before .before .before .before .before .before .before .before .before .args .media .now) (c .before .before .before .before .before .before .before .before .before .before .before .before .before .before .before .before .pre .3) (take (c .before .before .before .before .before .before .before .before .members-present .result .n) (c .before .before .before .before .before .before .before .before .members-present .result .rows)) b)
-          ∙ ap (λ (l : List ℕ). paste (c .before .before .before .before .before .before .before .before .before .before .before .before .before .before .before .before .args .sum .now) (c .before .before .before .before .before .before .before .before .before .before .before .before .before .before .before .before .args .to) (zipXor (drop (c .before .before .before .before .before .before .before .before .before .before .before .before .before .before .before .before .args .to) (c .before .before .before .before .before .before .before .before .before .before .before .before .before .before .before .before .args .sum .now)) (xorPayloads (c .before .before .before .before .before .before .before .before .before .before .before .before .before .before .before .before .args .w .p) (map (rowAt (c .before .before .before .before .before .before .before .before .before .before .before .before .before .before .before .before .args .w .p) (c .before .before .before .before .before .before .before .before .before .before .before .before .before .before .before .before .args .media .now)) l))) (c .before .before .before .before .before .before .before .before .before .before .before .before .before .before .before .before .args .w .p)) e,
+          ∙ rows-sum (the-args .w .p) (the-args .media .now) (the-args .to) (the-args .sum .now) (c .before .before .before .before .before .before .before .before .before .before .before .before .before .before .before .before .pre .2) (take (c .before .before .before .before .before .before .before .before .members-present .result .n) (c .before .before .before .before .before .before .before .before .members-present .result .rows)) (below-ends (the-args .w .n) (the-args .w .p) (the-args .media .now) (c .before .before .before .before .before .before .before .before .before .before .before .before .before .before .before .before .pre .3) (take (c .before .before .before .before .before .before .before .before .members-present .result .n) (c .before .before .before .before .before .before .before .before .members-present .result .rows)) b)
+          ∙ ap (λ (l : List ℕ). paste (the-args .sum .now) (the-args .to) (zipXor (drop (the-args .to) (the-args .sum .now)) (xorPayloads (the-args .w .p) (map (rowAt (the-args .w .p) (the-args .media .now)) l))) (the-args .w .p)) e,
     )
 
 pub add-up-spec : {M : Type 1} → statement M

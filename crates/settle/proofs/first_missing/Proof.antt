@@ -23,10 +23,14 @@ na-of-requires : tie.Need-na-of-requires
 na-of-requires c κs = search needs
 
 first-unmarked-requires : tie.Need-first-unmarked-requires
-first-unmarked-requires c κs = members-asked (c .before .before .before .before .args .w .base) (c .before .before .before .before .args .w .l) (c .before .before .before .before .args .w .d) (c .before .before .before .before .args .stream) (c .before .before .before .before .args .start) (c .before .before .before .before .args .w .n) (c .before .before .position .result) (c .before .offset-of .result) (c .na-of .result) (omega (arith, c .before .before .before .before .good)) (c .before .before .before .before .pre .0 .profile) (c .before .before .before .before .pre .0 .n-high) (c .before .before .before .before .pre .1) (c .before .before .position .ensures) (c .before .offset-of .ensures) (c .na-of .ensures) (c .before .before .before .before .args .marks .now) (c .before .before .before .before .pre .2)
+first-unmarked-requires c κs =
+    let the-args = c .before .before .before .before .args in
+    members-asked (the-args .w .base) (the-args .w .l) (the-args .w .d) (the-args .stream) (the-args .start) (the-args .w .n) (c .before .before .position .result) (c .before .offset-of .result) (c .na-of .result) (omega (arith, c .before .before .before .before .good)) (c .before .before .before .before .pre .0 .profile) (c .before .before .before .before .pre .0 .n-high) (c .before .before .before .before .pre .1) (c .before .before .position .ensures) (c .before .offset-of .ensures) (c .na-of .ensures) (the-args .marks .now) (c .before .before .before .before .pre .2)
 
 returns : tie.Need-returns
-returns c = c .first-unmarked .ensures ∙ ap (λ (l : List ℕ). headOr 0 (keep (unmarked (c .before .before .before .before .before .args .marks .now)) l)) (line-group (c .before .before .before .before .before .args .w .base) (c .before .before .before .before .before .args .w .l) (c .before .before .before .before .before .args .w .d) (c .before .before .before .before .before .args .stream) (c .before .before .before .before .before .args .start) (c .before .before .before .before .before .args .w .n) (c .before .before .before .position .result) (c .before .before .offset-of .result) (c .before .na-of .result) (omega (arith, c .before .before .before .before .before .good)) (c .before .before .before .before .before .pre .0 .profile) (c .before .before .before .before .before .pre .0 .n-high) (c .before .before .before .before .before .pre .1) (c .before .before .before .position .ensures) (c .before .before .offset-of .ensures) (c .before .na-of .ensures))
+returns c =
+    let the-args = c .before .before .before .before .before .args in
+    c .first-unmarked .ensures ∙ ap (λ (l : List ℕ). headOr 0 (keep (unmarked (the-args .marks .now)) l)) (line-group (the-args .w .base) (the-args .w .l) (the-args .w .d) (the-args .stream) (the-args .start) (the-args .w .n) (c .before .before .before .position .result) (c .before .before .offset-of .result) (c .before .na-of .result) (omega (arith, c .before .before .before .before .before .good)) (c .before .before .before .before .before .pre .0 .profile) (c .before .before .before .before .before .pre .0 .n-high) (c .before .before .before .before .before .pre .1) (c .before .before .before .position .ensures) (c .before .before .offset-of .ensures) (c .before .na-of .ensures))
 
 pub first-missing-spec : {M : Type 1} → statement M
 first-missing-spec =

@@ -53,7 +53,9 @@ loop-again c = (
 
 returns : tie.Need-returns Inv-loop μ-loop
 unfolding next
-returns c = let e : c .before .loop .r ≡ c .before .before .before .before .before .before .args .w .k = omega arith in (c .before .loop .inv .2 .low, ap (nextBelow (record { window = c .before .before .before .before .before .before .args .w; store = tables (c .before .before .before .before .before .before .args .marks .now) (c .before .before .before .before .before .before .args .streams .now) (c .before .before .before .before .before .before .args .snbases .now) (c .before .before .before .before .before .before .args .uses .now); rebuilt = 0 })) (sym e) ∙ c .before .loop .inv .2 .is)
+returns c =
+    let the-args = c .before .before .before .before .before .before .args in
+    let e : c .before .loop .r ≡ the-args .w .k = omega arith in (c .before .loop .inv .2 .low, ap (nextBelow (record { window = the-args .w; store = tables (the-args .marks .now) (the-args .streams .now) (the-args .snbases .now) (the-args .uses .now); rebuilt = 0 })) (sym e) ∙ c .before .loop .inv .2 .is)
 
 pub next-ready-spec : {M : Type 1} → statement M
 next-ready-spec =

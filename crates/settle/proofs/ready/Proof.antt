@@ -25,7 +25,9 @@ shared-slice-read-lack-2 : tie.Need-shared-slice-read-lack-2
 shared-slice-read-lack-2 c = search needs
 
 lack-requires : tie.Need-lack-requires
-lack-requires c κs = let i = c .before .before .before .before .before .before .before .before .pre .1 .inside (c .before .before .before .before .before .before .before .before .args .r) (c .before .before .before .before .before .before .before .before .pre .2) (eq-eqb _ 1 (c .before .before .if1 .left)) in (c .before .before .before .before .before .before .before .before .pre .0 .profile, inside-more 400 (c .before .before .before .before .before .before .before .before .pre .0 .n-high) i, inside-more _ (c .before .before .before .before .before .before .before .before .pre .3) i)
+lack-requires c κs =
+    let the-pre = c .before .before .before .before .before .before .before .before .pre in
+    let i = the-pre .1 .inside (c .before .before .before .before .before .before .before .before .args .r) (the-pre .2) (eq-eqb _ 1 (c .before .before .if1 .left)) in (the-pre .0 .profile, inside-more 400 (the-pre .0 .n-high) i, inside-more _ (the-pre .3) i)
 
 returns-2 : tie.Need-returns-2
 returns-2 c = rw (eq-eqb _ 1 (c .before .before .before .if1 .left), c .lack .ensures)

@@ -23,7 +23,9 @@ loop-holds : tie.Need-loop-holds Inv-loop μ-loop
 loop-holds c = (omega arith, refl, λ m t b. refl, refl, refl, refl, refl, refl)
 
 release-one-requires : tie.Need-release-one-requires Inv-loop μ-loop
-release-one-requires c κs = asked-one (c .before .before .before .before .before .before .before .before .before .before .before .before .before .args .w) (c .before .before .before .before .before .before .loop .v) (stored [] [] (c .before .before .before .before .before .before .before .before .before .before .before .before .before .args .marks .now) (c .before .before .before .before .before .before .loop .parity) (c .before .before .before .before .before .before .loop .streams) (c .before .before .before .before .before .before .loop .snbases) (c .before .before .before .before .before .before .loop .recoveries) (c .before .before .before .before .before .before .loop .uses)) 0 (c .before .before .before .before .before .before .loop .r) (subst (Kept (c .before .before .before .before .before .before .before .before .before .before .before .before .before .args .w)) (sym (c .before .before .before .before .before .before .loop .inv .2 [] [] 0)) (kept-below (c .before .before .before .before .before .before .before .before .before .before .before .before .before .args .w) (scene (c .before .before .before .before .before .before .before .before .before .before .before .before .before .args .w) (stored [] [] (c .before .before .before .before .before .before .before .before .before .before .before .before .before .args .marks .now) (c .before .before .before .before .before .before .before .before .before .before .before .before .before .args .parity .now) (c .before .before .before .before .before .before .before .before .before .before .before .before .before .args .streams .now) (c .before .before .before .before .before .before .before .before .before .before .before .before .before .args .snbases .now) (c .before .before .before .before .before .before .before .before .before .before .before .before .before .args .recoveries .now) (c .before .before .before .before .before .before .before .before .before .before .before .before .before .args .uses .now)) 0) (c .before .before .before .before .before .before .before .before .before .before .before .before .before .pre) (c .before .before .before .before .before .before .loop .r) (omega arith))) (omega arith)
+release-one-requires c κs =
+    let the-args = c .before .before .before .before .before .before .before .before .before .before .before .before .before .args in
+    asked-one (the-args .w) (c .before .before .before .before .before .before .loop .v) (stored [] [] (the-args .marks .now) (c .before .before .before .before .before .before .loop .parity) (c .before .before .before .before .before .before .loop .streams) (c .before .before .before .before .before .before .loop .snbases) (c .before .before .before .before .before .before .loop .recoveries) (c .before .before .before .before .before .before .loop .uses)) 0 (c .before .before .before .before .before .before .loop .r) (subst (Kept (the-args .w)) (sym (c .before .before .before .before .before .before .loop .inv .2 [] [] 0)) (kept-below (the-args .w) (scene (the-args .w) (stored [] [] (the-args .marks .now) (the-args .parity .now) (the-args .streams .now) (the-args .snbases .now) (the-args .recoveries .now) (the-args .uses .now)) 0) (c .before .before .before .before .before .before .before .before .before .before .before .before .before .pre) (c .before .before .before .before .before .before .loop .r) (omega arith))) (omega arith)
 
 add-r : tie.Need-add-r Inv-loop μ-loop
 add-r c = search needs
@@ -60,7 +62,9 @@ same-length-5 c = search needs
 
 returns : tie.Need-returns Inv-loop μ-loop
 unfolding releaseAll
-returns c = let e : c .before .loop .r ≡ c .before .before .before .before .before .before .before .before .args .w .k = omega arith in λ m t b. c .before .loop .inv .2 m t b ∙ ap (λ (k : ℕ). releaseBelow k (scene (c .before .before .before .before .before .before .before .before .args .w) (stored m t (c .before .before .before .before .before .before .before .before .args .marks .now) (c .before .before .before .before .before .before .before .before .args .parity .now) (c .before .before .before .before .before .before .before .before .args .streams .now) (c .before .before .before .before .before .before .before .before .args .snbases .now) (c .before .before .before .before .before .before .before .before .args .recoveries .now) (c .before .before .before .before .before .before .before .before .args .uses .now)) b)) e
+returns c =
+    let the-args = c .before .before .before .before .before .before .before .before .args in
+    let e : c .before .loop .r ≡ the-args .w .k = omega arith in λ m t b. c .before .loop .inv .2 m t b ∙ ap (λ (k : ℕ). releaseBelow k (scene (the-args .w) (stored m t (the-args .marks .now) (the-args .parity .now) (the-args .streams .now) (the-args .snbases .now) (the-args .recoveries .now) (the-args .uses .now)) b)) e
 
 pub release-all-spec : {M : Type 1} → statement M
 release-all-spec =

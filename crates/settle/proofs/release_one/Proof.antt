@@ -26,7 +26,9 @@ slice-read-lack-2 : tie.Need-slice-read-lack-2
 slice-read-lack-2 c = search needs
 
 lack-requires : tie.Need-lack-requires
-lack-requires c κs = let i = c .before .before .before .before .before .before .before .before .before .before .pre .1 .inside (c .before .before .before .before .before .before .before .before .before .before .args .r) (c .before .before .before .before .before .before .before .before .before .before .pre .2) (eq-eqb _ 1 (c .before .before .if1 .left)) in (c .before .before .before .before .before .before .before .before .before .before .pre .0 .profile, inside-more 400 (c .before .before .before .before .before .before .before .before .before .before .pre .0 .n-high) i, inside-more _ (c .before .before .before .before .before .before .before .before .before .before .pre .3) i)
+lack-requires c κs =
+    let the-pre = c .before .before .before .before .before .before .before .before .before .before .pre in
+    let i = the-pre .1 .inside (c .before .before .before .before .before .before .before .before .before .before .args .r) (the-pre .2) (eq-eqb _ 1 (c .before .before .if1 .left)) in (the-pre .0 .profile, inside-more 400 (the-pre .0 .n-high) i, inside-more _ (the-pre .3) i)
 
 returns-2 : tie.Need-returns-2
 returns-2 c = λ m t b. waits _ (c .before .before .before .before .before .before .before .before .before .before .before .before .args .r) (c .before .before .before .before .if1 .left) (λ e. c .if2 .taken (c .before .lack .ensures ∙ e))
@@ -35,7 +37,10 @@ mul-zero-at : tie.Need-mul-zero-at
 mul-zero-at c = omega (arith, row-ends (c .before .before .before .before .before .before .before .before .before .before .before .before .before .before .args .r) (c .before .before .before .before .before .before .before .before .before .before .before .before .before .before .args .w .k) (c .before .before .before .before .before .before .before .before .before .before .before .before .before .before .args .w .p) _ (c .before .before .before .before .before .before .before .before .before .before .before .before .before .before .pre .2) (c .before .before .before .before .before .before .before .before .before .before .before .before .before .before .pre .4))
 
 zero-at-requires : tie.Need-zero-at-requires
-zero-at-requires c κs = row-ends (c .before .before .before .before .before .before .before .before .before .before .before .before .before .before .args .r) (c .before .before .before .before .before .before .before .before .before .before .before .before .before .before .args .w .k) (c .before .before .before .before .before .before .before .before .before .before .before .before .before .before .args .w .p) _ (c .before .before .before .before .before .before .before .before .before .before .before .before .before .before .pre .2) (c .before .before .before .before .before .before .before .before .before .before .before .before .before .before .pre .4)
+zero-at-requires c κs =
+    let the-args = c .before .before .before .before .before .before .before .before .before .before .before .before .before .before .args in
+    let the-pre = c .before .before .before .before .before .before .before .before .before .before .before .before .before .before .pre in
+    row-ends (the-args .r) (the-args .w .k) (the-args .w .p) _ (the-pre .2) (the-pre .4)
 
 slice-write-streams : tie.Need-slice-write-streams
 slice-write-streams c = search needs
@@ -77,7 +82,9 @@ same-length-5 : tie.Need-same-length-5
 same-length-5 c = search needs
 
 returns-3 : tie.Need-returns-3
-returns-3 c = λ m t b. rw (c .recounted .ensures, c .before .one-less .ensures, c .before .before .before .before .zero-at .ensures) (spent (record { window = c .before .before .before .before .before .before .before .before .before .before .before .before .before .before .before .before .before .before .before .args .w; store = stored m t (c .before .before .before .before .before .before .before .before .before .before .before .before .before .before .before .before .before .before .before .args .marks .now) (c .before .before .before .before .before .before .before .before .before .before .before .before .before .before .before .before .before .before .before .args .parity .now) (c .before .before .before .before .before .before .before .before .before .before .before .before .before .before .before .before .before .before .before .args .streams .now) (c .before .before .before .before .before .before .before .before .before .before .before .before .before .before .before .before .before .before .before .args .snbases .now) (c .before .before .before .before .before .before .before .before .before .before .before .before .before .before .before .before .before .before .before .args .recoveries .now) (c .before .before .before .before .before .before .before .before .before .before .before .before .before .before .before .before .before .before .before .args .uses .now); rebuilt = b }) (c .before .before .before .before .before .before .before .before .before .before .before .before .before .before .before .before .before .before .before .args .r) (c .before .before .before .before .before .before .before .before .before .before .before .if1 .left) (sym (c .before .before .before .before .before .before .before .before .lack .ensures) ∙ c .before .before .before .before .before .before .before .if2 .left))
+returns-3 c =
+    let the-args = c .before .before .before .before .before .before .before .before .before .before .before .before .before .before .before .before .before .before .before .args in
+    λ m t b. rw (c .recounted .ensures, c .before .one-less .ensures, c .before .before .before .before .zero-at .ensures) (spent (record { window = the-args .w; store = stored m t (the-args .marks .now) (the-args .parity .now) (the-args .streams .now) (the-args .snbases .now) (the-args .recoveries .now) (the-args .uses .now); rebuilt = b }) (the-args .r) (c .before .before .before .before .before .before .before .before .before .before .before .if1 .left) (sym (c .before .before .before .before .before .before .before .before .lack .ensures) ∙ c .before .before .before .before .before .before .before .if2 .left))
 
 pub release-one-spec : {M : Type 1} → statement M
 release-one-spec =
