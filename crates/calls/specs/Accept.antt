@@ -12,10 +12,11 @@ use Rattle.window.specs.Group.{position, group, missing}
 use Rattle.window.specs.Order.{inUse}
 use Rattle.settle.specs.State.{State, Recovery, storeMedia, rebuild, hold}
 
--- the payload of a media and of a parity datagram
+-- the payload of a media datagram
 abbrev pub mediaPayload : List ℕ → List ℕ
 mediaPayload g = drop rtpHeaderSize g
 
+-- timestamp recovery and payload recovery of a parity datagram
 abbrev pub recoveryOf : List ℕ → Recovery
 recoveryOf g = record { stamps = timestampRecovery g; payload = drop parityHeaderSize g }
 
@@ -33,5 +34,6 @@ takeParity [] stream start v x = x
 takeParity (i ∷ []) stream start v x = rebuild (group (x .window) stream start) v i x
 takeParity (i ∷ j ∷ more) stream start v x = hold (firstFree (x .window) (x .store)) stream start v x
 
+-- a parity packet is taken in by what is missing of its group
 abbrev pub acceptParity : (stream : ℕ) → List ℕ → State → State
 acceptParity stream g x = takeParity (missing (x .store) (group (x .window) stream (snbase g))) stream (snbase g) (recoveryOf g) x

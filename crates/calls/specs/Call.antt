@@ -36,6 +36,7 @@ pub record Written : Type 0 where
 
 -- ---- opening (01, "Setting up a window")
 
+-- the window value of a refused opening: zeros, which every later call refuses with 1
 abbrev pub noWindow : Window
 noWindow = record { base = 0; ssrc = 0; l = 0; d = 0; p = 0; n = 0; k = 0; present = 0; «in_use» = 0 }
 
@@ -61,6 +62,7 @@ asked base ssrc l d p n k = record { base = base; ssrc = ssrc; l = l; d = d; p =
 abbrev pub openTests : Window → Store → List (ℕ × Bool)
 openTests w s = setUpTests w ++ ((4, shortStore w s) ∷ [])
 
+-- an opening: the store cleared and the window value, or the refusal
 unfoldable pub opened : Window → Store → Outcome
 opened w s =
     cond (eqb (first (openTests w s)) 0) (record { answer = Done 0; window = w; store = cleared w s })
@@ -80,13 +82,15 @@ mediaPlaceTests w g s =
     ∷ (15, not (lost s (position w (sequenceNumber g))))
     ∷ []
 
+-- the tests of a media offer: 1 to 9 and 13 to 15
 abbrev pub mediaOfferTests : Window → List ℕ → Store → List (ℕ × Bool)
 mediaOfferTests w g s = standingTests w s 0 0 ++ mediaTests (w .p) g ++ mediaPlaceTests w g s
 
--- a record in use holds this group, and the same recovery
+-- a record in use holds this group
 abbrev pub holds : Store → (stream start : ℕ) → ℕ → Bool
 holds s stream start r = inUse s r && (eqb (streamAt s r) stream && eqb (snbaseAt s r) start)
 
+-- and holds it with the same timestamp recovery and payload recovery
 abbrev pub holdsSame : Window → Store → (stream : ℕ) → List ℕ → ℕ → Bool
 holdsSame w s stream g r = holds s stream (snbase g) r && (eqb (recoveryAt s r) (recoveryOf g .stamps) && same (parityAt w s r) (recoveryOf g .payload))
 
@@ -100,9 +104,11 @@ parityPlaceTests w stream g s =
     ∷ (16, ltb 1 (length (missing s (group w stream (snbase g)))) && not (ltb (w .«in_use») (w .k)))
     ∷ []
 
+-- the tests of a parity offer on the port of a stream: 1 to 16
 abbrev pub parityOfferTests : Window → (stream : ℕ) → List ℕ → Store → List (ℕ × Bool)
 parityOfferTests w stream g s = standingTests w s 0 0 ++ parityTests stream (w .l) (w .d) (w .p) g ++ parityPlaceTests w stream g s
 
+-- a refusal: its number, the same window value, the store as it was
 abbrev pub refused : ℕ → Window → Store → Outcome
 refused number w s = record { answer = Refused number; window = w; store = s }
 
@@ -110,21 +116,26 @@ refused number w s = record { answer = Refused number; window = w; store = s }
 abbrev pub settled : State → Outcome
 settled x = record { answer = Done (settle x .rebuilt); window = settle x .window; store = settle x .store }
 
+-- a call begins: nothing rebuilt yet
 abbrev pub start : Window → Store → State
 start w s = record { window = w; store = s; rebuilt = 0 }
 
+-- a media offer: accepted and settled, or refused
 unfoldable pub offeredMedia : Window → List ℕ → Store → Outcome
 offeredMedia w g s =
     cond (eqb (first (mediaOfferTests w g s)) 0) (settled (acceptMedia g (start w s))) (refused (first (mediaOfferTests w g s)) w s)
 
+-- a parity offer on the port of a stream: accepted and settled, or refused
 unfoldable pub offeredParity : (stream : ℕ) → Window → List ℕ → Store → Outcome
 offeredParity stream w g s =
     cond (eqb (first (parityOfferTests w stream g s)) 0) (settled (acceptParity stream g (start w s)))
     (refused (first (parityOfferTests w stream g s)) w s)
 
+-- on the column port
 abbrev pub offeredColumn : Window → List ℕ → Store → Outcome
 offeredColumn = offeredParity column
 
+-- on the row port
 abbrev pub offeredRow : Window → List ℕ → Store → Outcome
 offeredRow = offeredParity row
 
@@ -134,12 +145,13 @@ offeredRow = offeredParity row
 abbrev pub over : List ℕ → List ℕ → List ℕ
 over datagram out = datagram ++ drop (length datagram) out
 
--- 13 and 17: the number lies outside; the packet is missing
+-- the tests of reading out: 1 to 5, 13 (the number lies outside) and 17 (the packet is missing)
 abbrev pub readTests : Window → (number : ℕ) → Store → (out : List ℕ) → List (ℕ × Bool)
 readTests w number s out =
     standingTests w s (length out) (rtpHeaderSize + w .p)
     ++ ((13, not (ltb (position w number) (w .n))) ∷ (17, lost s (position w number)) ∷ [])
 
+-- reading out a number: its datagram, or the refusal; store and window value stay (01, "Taking a packet in")
 unfoldable pub readOut : Window → (number : ℕ) → Store → (out : List ℕ) → Written
 readOut w number s out =
     cond (eqb (first (readTests w number s out)) 0)
@@ -150,7 +162,7 @@ readOut w number s out =
     })
     (record { answer = Refused (first (readTests w number s out)); window = w; out = out })
 
--- 12, 13 and 17: a row where rows are not permitted; a member lies outside; a member is missing
+-- the tests of writing parity: 1 to 5, 12 (a row where rows are not permitted), 13 (a member lies outside) and 17 (a member is missing)
 abbrev pub writeTests : Window → (stream start : ℕ) → Store → (out : List ℕ) → List (ℕ × Bool)
 writeTests w stream start s out =
     standingTests w s (length out) (parityHeaderSize + w .p)
@@ -164,14 +176,17 @@ abbrev pub parityOf : Window → Outer → (stream start : ℕ) → Store → Li
 parityOf w o stream start s =
     parityPacket o stream (w .l) (w .d) (w .p) start (map (timestampAt s) (group w stream start)) (map (payloadAt w s) (group w stream start))
 
+-- writing the parity of a group: its datagram, or the refusal; store and window value stay (01, "Taking a packet in")
 unfoldable pub wroteParity : (stream : ℕ) → Window → (start : ℕ) → Outer → Store → (out : List ℕ) → Written
 wroteParity stream w start o s out =
     cond (eqb (first (writeTests w stream start s out)) 0)
     (record { answer = Done (parityHeaderSize + w .p); window = w; out = over (parityOf w o stream start s) out })
     (record { answer = Refused (first (writeTests w stream start s out)); window = w; out = out })
 
+-- of a column
 abbrev pub wroteColumn : Window → (start : ℕ) → Outer → Store → (out : List ℕ) → Written
 wroteColumn = wroteParity column
 
+-- of a row
 abbrev pub wroteRow : Window → (start : ℕ) → Outer → Store → (out : List ℕ) → Written
 wroteRow = wroteParity row

@@ -58,11 +58,12 @@ rebuildBy r x =
     (headOr 0 (missing (x .store) (groupAt (x .window) (x .store) r)))
     x
 
--- one round: the next record rebuilds, and what is spent is released
+-- a record, if there is one, rebuilds, and what is spent is released
 abbrev pub roundBy : Option ℕ → State → State
 roundBy none x = x
 roundBy (some r) x = releaseAll (rebuildBy r x)
 
+-- one round, by the next record
 unfoldable pub round : State → State
 round x = roundBy (next x) x
 
