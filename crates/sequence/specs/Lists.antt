@@ -54,6 +54,11 @@ pub map-append : (f : ℕ → ℕ) (l m : List ℕ) → map f (l ++ m) ≡ map f
 map-append f [] m = refl
 map-append f (i ∷ l) m = ap (λ (k : List ℕ). f i ∷ k) (map-append f l m)
 
+-- there are n numbers below n
+pub length-upTo : (n : ℕ) → length (upTo n) ≡ n
+length-upTo zero = refl
+length-upTo (suc n) = length-append (upTo n) (n ∷ []) ∙ ap (λ (k : ℕ). k + 1) (length-upTo n) ∙ add-one n
+
 -- what holds of each number below n, and of n, holds of each below suc n
 below-suc : (P : ℕ → Type 0) (n : ℕ) → ((i : ℕ) → i < n → P i) → P n → (i : ℕ) → i < suc n → P i
 below-suc P n h p i l = ⊎-elim (λ e. rw e p) (h i) (eq-or-lt-of-le (le-of-suc-le-suc l))

@@ -1,5 +1,6 @@
 pub mod Members
 pub mod Scan
 pub mod Release
+pub mod Counts
 pub mod Rounds
 pub mod Settling

@@ -7,13 +7,12 @@ use native.Mathlib.Omega.{arith}
 use lib.Dec.{eqb}
 use lib.ListN.{length, getD, set, replicate, length-set, length-replicate}
 use lib.Seq.{getD-set-same, getD-set-other, length-paste}
-use borrow.Author.Tests.{eq-eqb, ne-eqb, eqb-true, eqb-false}
+use borrow.Author.Tests.{eq-eqb, ne-eqb, eqb-true}
 use Rattle.window.specs.declared.Window.{Window}
-use Rattle.window.specs.Store.{Store, streamAt, snbaseAt}
+use Rattle.window.specs.Store.{Store}
 use Rattle.window.specs.Order.{inUse}
 use Rattle.window.specs.Bounds.{SetUp}
 use Rattle.window.specs.Plain.{Inside}
-use Rattle.window.specs.InOrder.{tables}
 use Rattle.settle.specs.State.{State, recount, release}
 use Rattle.settle.specs.Scan.{Records, Kept, scene, stored}
 use Rattle.settle.specs.Settle.{lack, releaseSpent, releaseBelow}
@@ -47,8 +46,12 @@ set-up-same w v a b e h =
 pub records-same : (w v : Window) (a b : ℕ) (s : Store) → v ≡ recount w a b → Records w s → Records v s
 records-same w v a b s e h = rw e (record { inside = λ r l u. h .inside r l u })
 
+-- counts changed twice are counts changed
+pub recount-twice : (w v u : Window) → v ≡ recount w (v .present) (v .«in_use») → u ≡ recount v (u .present) (u .«in_use») → u ≡ recount w (u .present) (u .«in_use»)
+recount-twice w v u e f = f ∙ ap (λ (x : Window). recount x (u .present) (u .«in_use»)) e
+
 -- a list with one element set to 0 has a 1 only elsewhere
-one-elsewhere : (l : List ℕ) (r q : ℕ) → r < length l → getD (set l r 0) q 0 ≡ 1 → q ≡ r → ⊥
+pub one-elsewhere : (l : List ℕ) (r q : ℕ) → r < length l → getD (set l r 0) q 0 ≡ 1 → q ≡ r → ⊥
 one-elsewhere l r q h e f = let z = sym (getD-set-same l r 0 0 h) ∙ ap (λ (k : ℕ). getD (set l r 0) k 0) (sym f) ∙ e in omega arith
 
 module _ (w : Window) (x : State) (h : Kept w x) where
@@ -87,21 +90,13 @@ pub kept-below : (w : Window) (x : State) → Kept w x → (m : ℕ) → m ≤ w
 kept-below w x h zero l = h
 kept-below w x h (suc m) l = kept-spent w (releaseBelow m x) (kept-below w x h m (omega arith)) m (omega arith)
 
--- what a release of one record asks
-pub asked-one : (w v : Window) (s : Store) (b r : ℕ) → Kept w (scene v s b) → r < w .k
-    → SetUp v × Records v (tables (s .marks) (s .streams) (s .snbases) (s .uses)) × (r < v .k) × (v .n ≤ length (s .marks)) × (v .k * v .p ≤ length (s .parity)) × (v .k ≤ length (s .streams)) × (v .k ≤ length (s .snbases)) × (v .k ≤ length (s .recoveries)) × (v .k ≤ length (s .uses))
-asked-one w v s b r h l =
-    let e : v ≡ recount w (v .present) (v .«in_use») = h .same in (
-      set-up-same w v (v .present) (v .«in_use») e (h .set-up),
-      rw e (record { inside = λ q k u. h .records .inside q k u }),
-      rw e l,
-      rw e (h .marks-long),
-      rw e (h .parity-long),
-      rw e (h .streams-long),
-      rw e (h .snbases-long),
-      rw e (h .recoveries-long),
-      rw e (h .uses-long),
-    )
+-- what a release asks of the lengths of the parts
+pub asked-all : (w v : Window) (a b np ns nb nr nu nc : ℕ) → v ≡ recount w a b → w .k * w .p ≤ np → w .k ≤ ns → w .k ≤ nb → w .k ≤ nr → w .k ≤ nu → w .k ≤ nc
+    → (v .k * v .p ≤ np) × (v .k ≤ ns) × (v .k ≤ nb) × (v .k ≤ nr) × (v .k ≤ nu) × (v .k ≤ nc)
+asked-all w v a b np ns nb nr nu nc e hp hs hb hr hu hc = (rw e hp, rw e hs, rw e hb, rw e hr, rw e hu, rw e hc)
+
+pub long-uses : (w v : Window) (a b : ℕ) (uses : List ℕ) → v ≡ recount w a b → w .k ≤ length uses → v .k ≤ length uses
+long-uses w v a b uses e h = rw e h
 
 -- after a rebuild, which changes the counts and the marks only, the records are as good as before
 pub kept-rebuilt : (w v : Window) (a b : ℕ) (m t media timestamps marks marks′ parity streams snbases recoveries uses : List ℕ)

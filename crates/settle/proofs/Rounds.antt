@@ -1,9 +1,9 @@
 -- The two ways through a round. Assumes nothing.
 use mathlib.Core.Path.{_≡_, refl, sym, ap, _∙_}
-use mathlib.Core.Bool.{Bool, true, false, cond, _&&_, true≢false}
+use mathlib.Core.Bool.{Bool, true, false, cond, _&&_}
 use mathlib.Core.List.{List, [], _∷_}
 use mathlib.Core.Option.{Option, none, some}
-use Prim.Native.Nat.{ℕ, zero, suc, _+_, _*_, _<_, _≤_}
+use Prim.Native.Nat.{ℕ, zero, suc, _+_, _*_, _^_, _<_, _≤_}
 use native.Mathlib.Omega.{arith}
 use lib.Dec.{eqb, ltb}
 use lib.ListN.{length, getD, take, drop, set}
@@ -11,13 +11,15 @@ use lib.Seq.{paste}
 use borrow.Author.Tests.{eqb-true, lt-ltb, le-ltb}
 use Rattle.sequence.specs.Lists.{keep, headOr, and-split}
 use Rattle.window.specs.declared.Window.{Window}
-use Rattle.window.specs.Store.{Store, streamAt, snbaseAt, recoveryAt, parityAt}
+use Rattle.window.specs.Store.{Store, streamAt, snbaseAt}
 use Rattle.window.specs.Order.{inUse, groupAt}
 use Rattle.window.specs.InOrder.{tables}
+use Rattle.window.specs.Plain.{Inside}
 use Rattle.settle.specs.State.{State, recount, rebuild, stampOver, payloadOver}
-use Rattle.settle.specs.Scan.{unmarked, found, stored, scene}
-use Rattle.settle.specs.Settle.{ready, lack, rank, better, nextBelow, next, rebuildBy, releaseAll, round, roundBy}
-use Rattle.settle.proofs.Members.{Below}
+use Rattle.settle.specs.Scan.{unmarked, found, stored, scene, Kept}
+use Rattle.settle.specs.Settle.{ready, lack, rank, better, nextBelow, next, rebuildBy, releaseAll, round}
+use Rattle.settle.proofs.Members.{Below, kept-below-group}
+use Rattle.settle.proofs.Counts.{head-kept}
 
 -- states in which the same records are ready, with the same ranks, have the same next record
 module _ (x y : State) (er : (r : ℕ) → ready x r ≡ ready y r) (ek : (r : ℕ) → rank x r ≡ rank y r) where
@@ -66,7 +68,7 @@ module _ (x : State) (r : ℕ) where
       go none eo ih p = here (ready x m) none refl (λ q. ih (eo ∙ q)) p
       go (some q) eo ih p = both q (ready x m) (ltb (rank x m) (rank x q)) refl (λ f. ih (eo ∙ f)) p
 
-  pub next-is-ready : next x ≡ some r → (inUse (x .store) r ≡ true) × (lack x r ≡ 1)
+  next-is-ready : next x ≡ some r → (inUse (x .store) r ≡ true) × (lack x r ≡ 1)
   unfolding next
   next-is-ready e =
       let h = and-split (inUse (x .store) r) (eqb (lack x r) 1) (next-below (x .window .k) e .1) in
@@ -77,11 +79,36 @@ pub head-below : (n : ℕ) (l : List ℕ) → Below n l → length l ≡ 1 → h
 head-below n [] b e = absurd (omega (arith, e))
 head-below n (i ∷ l) b e = b .0
 
-pub found-at : (k r : ℕ) → r < k → found k r ≡ some r
+found-at : (k r : ℕ) → r < k → found k r ≡ some r
 found-at k r h = rw (lt-ltb r k h)
 
-pub found-none : (k r : ℕ) → k ≤ r → found k r ≡ none
+found-none : (k r : ℕ) → k ≤ r → found k r ≡ none
 found-none k r h = rw (le-ltb r k h)
+
+-- ---- the record that was found, and its missing packet
+module _ (w : Window) (s : Store) (r : ℕ) (nx : next (scene w (tables (s .marks) (s .streams) (s .snbases) (s .uses)) 0) ≡ found (w .k) r) where
+  same : (b : ℕ) → next (scene w s b) ≡ found (w .k) r
+  same b = next-same w (s .media) (s .timestamps) (s .marks) (s .parity) (s .streams) (s .snbases) (s .recoveries) (s .uses) b ∙ nx
+
+  pub next-none : w .k ≤ r → (b : ℕ) → next (scene w s b) ≡ none
+  next-none h b = same b ∙ found-none (w .k) r h
+
+  pub next-some : r < w .k → (b : ℕ) → next (scene w s b) ≡ some r
+  next-some h b = same b ∙ found-at (w .k) r h
+
+  pub next-inside : Kept w (scene w s 0) → r < w .k → Inside (w .base) (w .l) (w .d) (streamAt s r) (snbaseAt s r) (w .n)
+  next-inside kept h = kept .records .inside r h (next-is-ready (scene w s 0) r (next-some h 0) .0)
+
+  -- it lies in the window, and its mark is 0
+  pub next-missing : Kept w (scene w s 0) → r < w .k → w .base < 2 ^ 16 → (i : ℕ) → i ≡ headOr 0 (keep (unmarked (s .marks)) (groupAt w s r)) → (i < w .n) × (getD (s .marks) i 0 ≡ 0)
+  next-missing kept h base i e =
+      let one = next-is-ready (scene w s 0) r (next-some h 0) .1 in (
+        rw e
+            (head-below (w .n) (keep (unmarked (s .marks)) (groupAt w s r))
+            (kept-below-group (w .base) (w .l) (w .d) (streamAt s r) (snbaseAt s r) (w .n) base (kept .set-up .profile) (kept .set-up .n-high) (next-inside kept h) (unmarked (s .marks)))
+            one),
+        eqb-true (getD (s .marks) i 0) 0 (rw e (head-kept (unmarked (s .marks)) (groupAt w s r) one)),
+      )
 
 -- what the rebuild of a record leaves, part by part
 pub rebuilt-by : (w v : Window) (media timestamps marks parity streams snbases recoveries uses : List ℕ) (b r i : ℕ) (media′ timestamps′ marks′ : List ℕ)

@@ -2,13 +2,12 @@
 use mathlib.Core.Path.{_≡_, refl, sym, ap, _∙_}
 use mathlib.Core.Bool.{Bool, true, false, cond, _&&_, _||_, not}
 use mathlib.Core.List.{List, [], _∷_, _++_, map}
-use mathlib.Core.Option.{Option, none, some}
-use Prim.Native.Nat.{ℕ, zero, suc, _+_, _*_, _<_, _≤_}
+use mathlib.Core.Option.{none, some}
+use Prim.Native.Nat.{ℕ, zero, suc, _+_, _<_, _≤_}
 use native.Mathlib.Numerals.{add-one}
 use native.Mathlib.Omega.{arith}
 use lib.Dec.{ltb}
-use borrow.Author.Tests.{ltb-true, ltb-false, lt-ltb, le-ltb}
-use mathlib.Core.Logic.{_⊎_, inl, inr, ⊎-elim}
+use borrow.Author.Tests.{ltb-true, ltb-false, lt-ltb}
 use Rattle.sequence.specs.Lists.{upTo, keep, keep-append, map-append, headOr}
 use Rattle.settle.specs.declared.Best.{Best}
 use Rattle.settle.specs.State.{State}
@@ -38,11 +37,18 @@ module _ (test : ℕ → Bool) (f : ℕ → ℕ) where
   pub first-here : (j n : ℕ) → j < n → keep test (map f (upTo j)) ≡ [] → test (f j) ≡ true → f j ≡ headOr 0 (keep test (map f (upTo n)))
   first-here j n l e h = let r = first-split j n l e h in rw (r .1)
 
+-- the best so far is a record, or k where there is none
+pub pick-low : (b : Best) (k r rank : ℕ) (t : Bool) → b .at ≤ k → r < k → pick b k r rank t .at ≤ k
+pick-low b k r rank t h l = go (t && (not (ltb (b .at) k) || ltb rank (b .rank)))
+  where
+    go : (u : Bool) → cond u (record { at = r; rank = rank }) b .at ≤ k
+    go true = omega arith
+    go false = h
+
 -- what the best of the first r records says of the first r + 1
 pub record Leads (x : State) (k r : ℕ) (b : Best) : Type 0 where
   pub is : nextBelow x r ≡ found k (b .at)
   pub ranks : b .at < k → b .rank ≡ rank x (b .at)
-  pub low : b .at ≤ k
 
 module _ (x : State) (k r : ℕ) (here : r < k) (b : Best) (h : Leads x k r b) where
   lead : Best
@@ -63,18 +69,16 @@ module _ (x : State) (k r : ℕ) (here : r < k) (b : Best) (h : Leads x k r b) w
       record {
         is = rw (add-one r) (ap (better x r) (was-some eu) ∙ rw (et, ← h .ranks (ltb-true (b .at) k eu), ev) (sym found-here));
         ranks = λ _. refl;
-        low = omega arith;
       }
   go true true false et eu ev =
       record {
         is = rw (add-one r) (ap (better x r) (was-some eu) ∙ rw (et, ← h .ranks (ltb-true (b .at) k eu), ev) (rw eu));
         ranks = h .ranks;
-        low = h .low;
       }
   go true false v et eu ev =
-      record { is = rw (add-one r) (ap (better x r) (was-none eu) ∙ rw et (sym found-here)); ranks = λ _. refl; low = omega arith }
-  go false true v et eu ev = record { is = rw (add-one r) (ap (better x r) (was-some eu) ∙ rw et (rw eu)); ranks = h .ranks; low = h .low }
-  go false false v et eu ev = record { is = rw (add-one r) (ap (better x r) (was-none eu) ∙ rw et (rw eu)); ranks = h .ranks; low = h .low }
+      record { is = rw (add-one r) (ap (better x r) (was-none eu) ∙ rw et (sym found-here)); ranks = λ _. refl }
+  go false true v et eu ev = record { is = rw (add-one r) (ap (better x r) (was-some eu) ∙ rw et (rw eu)); ranks = h .ranks }
+  go false false v et eu ev = record { is = rw (add-one r) (ap (better x r) (was-none eu) ∙ rw et (rw eu)); ranks = h .ranks }
 
   pub leads-more : (c : Best) (rk : ℕ) (t : Bool) → t ≡ ready x r → rk ≡ rank x r → c ≡ pick b k r rk t → Leads x k (r + 1) c
   unfolding lead

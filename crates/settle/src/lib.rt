@@ -1,22 +1,23 @@
 // Settling: parity in hand rebuilds until none of it has exactly one packet missing.
 use window::Window;
 ghost use mathlib.Core.Path.{_≡_};
-ghost use mathlib.Core.Bool.{_&&_, true};
+ghost use mathlib.Core.Bool.{_&&_, cond};
 ghost use mathlib.Core.List.{List, []};
 ghost use mathlib.Core.Option.{none};
 ghost use Prim.Native.Nat.{ℕ, _+_, _*_, _-_, _≤_, _<_};
 ghost use lib.Dec.{eqb};
 ghost use lib.ListN.{length, getD, drop, take, set};
 ghost use lib.Seq.{paste};
-ghost use Rattle.sequence.specs.Lists.{keep, headOr};
+ghost use Rattle.sequence.specs.Lists.{keep, count, headOr};
 ghost use Rattle.sequence.specs.Wrap.{ahead};
 ghost use Rattle.parity.specs.Rows.{line};
-ghost use Rattle.window.specs.Bounds.{SetUp, Profile};
+ghost use Rattle.window.specs.Bounds.{SetUp};
 ghost use Rattle.window.specs.Plain.{Inside, groupOf};
 ghost use Rattle.window.specs.InOrder.{tables};
 ghost use Rattle.settle.specs.State.{stampOver, payloadOver, recount};
 ghost use Rattle.settle.specs.Scan.{unmarked, found, pick, Records, Kept, scene, stored};
-ghost use Rattle.settle.specs.Settle.{next, releaseSpent, releaseBelow, releaseAll, round};
+ghost use Rattle.settle.specs.Counts.{lackAt, standsAt, Counted, Lowered};
+ghost use Rattle.settle.specs.Settle.{next, releaseSpent, releaseAll, round};
 
 // The payloads held of a group xored into a buffer from a place on; the timestamps held xored with a number.
 pub fn add_up(
@@ -81,6 +82,96 @@ pub fn rebuild_at(
     marks[i] = 1;
 }
 
+// ---- how many packets each record in use waits for
+
+// How many packets of the group of record r are missing; 0 of a free record.
+fn lack_of(w: Window, marks: &[u8], streams: &[u8], snbases: &[u16], uses: &[u8], r: usize) -> u8
+    requires { ⌜ SetUp w × Records w (tables (now marks) (now streams) (now snbases) (now uses)) × (r < w .k) × (w .n ≤ length (now marks)) × (w .k ≤ length (now streams)) × (w .k ≤ length (now snbases)) × (w .k ≤ length (now uses)) ⌝ }
+    ensures { λ c. ⌜ (getD (now (uses .entry)) r 0 ≡ 1 → c ≡ lackAt w (now (marks .entry)) (now (streams .entry)) (now (snbases .entry)) r) ⌝ }
+{
+    if uses[r] != 1 {
+        return 0;
+    }
+    window::lack(w.base, marks, streams[r], snbases[r], w.l, w.d) as u8
+}
+
+// The counts of the first K records.
+fn count_all(
+    w: Window,
+    marks: &[u8],
+    streams: &[u8],
+    snbases: &[u16],
+    uses: &[u8],
+    counts: &mut [u8],
+)
+    requires { ⌜ SetUp w × Records w (tables (now marks) (now streams) (now snbases) (now uses)) × (w .n ≤ length (now marks)) × (w .k ≤ length (now streams)) × (w .k ≤ length (now snbases)) × (w .k ≤ length (now uses)) × (w .k ≤ length (now counts)) ⌝ }
+    ensures { λ _. ⌜ Counted (w .k) w (now (marks .entry)) (now (streams .entry)) (now (snbases .entry)) (now (uses .entry)) (now (counts .exit)) ⌝ }
+{
+    let k = w.k;
+    let mut r = 0;
+    while r < k {
+        counts[r] = lack_of(w, marks, streams, snbases, uses, r);
+        r += 1;
+    }
+}
+
+// Position i is `at` or one of the na - 1 places that follow it in steps of `offset`; most are ruled out before the division.
+fn on_line(at: usize, offset: usize, na: usize, i: usize) -> bool
+    requires { ⌜ (1 ≤ offset) × (offset ≤ 20) × (na ≤ 20) × (at < 65536) ⌝ }
+    ensures { λ r. ⌜ count (eqb i) (line at offset na) ≡ cond r 1 0 ⌝ }
+{
+    if (i < at) | (at + na * offset <= i) {
+        return false;
+    }
+    (i - at) % offset == 0
+}
+
+// Record r is in use and position i is a member of its group.
+fn waits_for(w: Window, streams: &[u8], snbases: &[u16], uses: &[u8], r: usize, i: usize) -> bool
+    requires { ⌜ SetUp w × Records w (tables [] (now streams) (now snbases) (now uses)) × (r < w .k) × (w .k ≤ length (now streams)) × (w .k ≤ length (now snbases)) × (w .k ≤ length (now uses)) ⌝ }
+    ensures { λ t. ⌜ (getD (now (uses .entry)) r 0 ≡ 1 → standsAt w (now (streams .entry)) (now (snbases .entry)) i r ≡ cond t 1 0) ⌝ }
+{
+    if uses[r] != 1 {
+        return false;
+    }
+    let stream = streams[r];
+    let at = sequence::position(w.base, snbases[r]) as usize;
+    on_line(
+        at,
+        rtp::offset_of(stream, w.l),
+        rtp::na_of(stream, w.l, w.d),
+        i,
+    )
+}
+
+// One less where it is so, but not below 0.
+fn less_where(x: u8, so: bool) -> u8
+    ensures { λ r. ⌜ r ≡ x - cond so 1 0 ⌝ }
+{
+    if so & (0 < x) { x - 1 } else { x }
+}
+
+// Position i is no longer missing: each record in use that waits for it has one less to wait for.
+fn lower_counts(
+    w: Window,
+    i: usize,
+    streams: &[u8],
+    snbases: &[u16],
+    uses: &[u8],
+    counts: &mut [u8],
+)
+    requires { ⌜ SetUp w × Records w (tables [] (now streams) (now snbases) (now uses)) × (w .k ≤ length (now streams)) × (w .k ≤ length (now snbases)) × (w .k ≤ length (now uses)) × (w .k ≤ length (now counts)) ⌝ }
+    ensures { λ _. ⌜ Lowered (w .k) w i (now (streams .entry)) (now (snbases .entry)) (now (uses .entry)) (now (counts .entry)) (now (counts .exit)) ⌝ }
+{
+    let k = w.k;
+    let mut r = 0;
+    while r < k {
+        let so = waits_for(w, streams, snbases, uses, r, i);
+        counts[r] = less_where(counts[r], so);
+        r += 1;
+    }
+}
+
 // ---- which record is next
 
 // The first position of a line whose mark is 0, or 0.
@@ -110,16 +201,12 @@ pub fn first_missing(w: Window, marks: &[u8], stream: u8, start: u16) -> usize
     first_unmarked(marks, at, offset, na)
 }
 
-// A record in use with exactly one packet missing.
-fn ready(w: Window, marks: &[u8], streams: &[u8], snbases: &[u16], uses: &[u8], r: usize) -> bool
-    requires { ⌜ SetUp w × Records w (tables (now marks) (now streams) (now snbases) (now uses)) × (r < w .k) × (w .n ≤ length (now marks)) × (w .k ≤ length (now streams)) × (w .k ≤ length (now snbases)) × (w .k ≤ length (now uses)) ⌝ }
-    ensures { λ is. ⌜ is ≡ (eqb (getD (now (uses .entry)) r 0) 1
-        && eqb (length (keep (unmarked (now (marks .entry))) (groupOf (w .base) (w .l) (w .d) (getD (now (streams .entry)) r 0) (getD (now (snbases .entry)) r 0)))) 1) ⌝ }
+// A record in use with a count of 1.
+fn ready(uses: &[u8], counts: &[u8], r: usize) -> bool
+    requires { ⌜ (r < length (now uses)) × (r < length (now counts)) ⌝ }
+    ensures { λ is. ⌜ is ≡ (eqb (getD (now (uses .entry)) r 0) 1 && eqb (getD (now (counts .entry)) r 0) 1) ⌝ }
 {
-    if uses[r] != 1 {
-        return false;
-    }
-    window::lack(w.base, marks, streams[r], snbases[r], w.l, w.d) == 1
+    (uses[r] == 1) & (counts[r] == 1)
 }
 
 // The order of rebuilding: by the position of SNBase, a column before a row.
@@ -146,15 +233,16 @@ fn better(b: Best, k: usize, r: usize, rank: usize, is: bool) -> Best
 }
 
 // The record that rebuilds next; K where none is ready.
-pub fn next_ready(w: Window, marks: &[u8], streams: &[u8], snbases: &[u16], uses: &[u8]) -> usize
-    requires { ⌜ SetUp w × Records w (tables (now marks) (now streams) (now snbases) (now uses)) × (w .n ≤ length (now marks)) × (w .k ≤ length (now streams)) × (w .k ≤ length (now snbases)) × (w .k ≤ length (now uses)) ⌝ }
-    ensures { λ r. ⌜ (r ≤ w .k) × (next (record { window = w; store = tables (now (marks .entry)) (now (streams .entry)) (now (snbases .entry)) (now (uses .entry)); rebuilt = 0 }) ≡ found (w .k) r) ⌝ }
+pub fn next_ready(w: Window, streams: &[u8], snbases: &[u16], uses: &[u8], counts: &[u8]) -> usize
+    requires { ⌜ (w .k ≤ length (now streams)) × (w .k ≤ length (now snbases)) × (w .k ≤ length (now uses)) × (w .k ≤ length (now counts)) ⌝ }
+    ensures { λ r. ⌜ (r ≤ w .k) × ((marks : List ℕ) → Counted (w .k) w marks (now (streams .entry)) (now (snbases .entry)) (now (uses .entry)) (now (counts .entry))
+        → next (scene w (tables marks (now (streams .entry)) (now (snbases .entry)) (now (uses .entry))) 0) ≡ found (w .k) r) ⌝ }
 {
     let k = w.k;
     let mut best = Best { at: k, rank: 0 };
     let mut r = 0;
     while r < k {
-        let is = ready(w, marks, streams, snbases, uses, r);
+        let is = ready(uses, counts, r);
         let rank = rank_of(w.base, streams[r], snbases[r]);
         best = better(best, k, r, rank, is);
         r += 1;
@@ -192,21 +280,22 @@ fn one_less(x: usize) -> usize
 fn release_one(
     w: Window,
     r: usize,
-    marks: &[u8],
     parity: &mut [u8],
     streams: &mut [u8],
     snbases: &mut [u16],
     recoveries: &mut [u32],
     uses: &mut [u8],
+    counts: &[u8],
 ) -> Window
-    requires { ⌜ SetUp w × Records w (tables (now marks) (now streams) (now snbases) (now uses)) × (r < w .k) × (w .n ≤ length (now marks)) × (w .k * w .p ≤ length (now parity)) × (w .k ≤ length (now streams)) × (w .k ≤ length (now snbases)) × (w .k ≤ length (now recoveries)) × (w .k ≤ length (now uses)) ⌝ }
-    ensures { λ v. ⌜ ((m t : List ℕ) (b : ℕ) → record { window = v; store = stored m t (now (marks .entry)) (now (parity .exit)) (now (streams .exit)) (now (snbases .exit)) (now (recoveries .exit)) (now (uses .exit)); rebuilt = b }
-        ≡ releaseSpent r (record { window = w; store = stored m t (now (marks .entry)) (now (parity .entry)) (now (streams .entry)) (now (snbases .entry)) (now (recoveries .entry)) (now (uses .entry)); rebuilt = b })) ⌝ }
+    requires { ⌜ (r < w .k) × (w .k * w .p ≤ length (now parity)) × (w .k ≤ length (now streams)) × (w .k ≤ length (now snbases)) × (w .k ≤ length (now recoveries)) × (w .k ≤ length (now uses)) × (w .k ≤ length (now counts)) ⌝ }
+    ensures { λ v. ⌜ (v ≡ recount w (v .present) (v .«in_use»)) × ((m t k : List ℕ) (b : ℕ) → Counted (w .k) w k (now (streams .entry)) (now (snbases .entry)) (now (uses .entry)) (now (counts .entry))
+        → scene v (stored m t k (now (parity .exit)) (now (streams .exit)) (now (snbases .exit)) (now (recoveries .exit)) (now (uses .exit))) b
+        ≡ releaseSpent r (scene w (stored m t k (now (parity .entry)) (now (streams .entry)) (now (snbases .entry)) (now (recoveries .entry)) (now (uses .entry))) b)) ⌝ }
 {
     if uses[r] != 1 {
         return w;
     }
-    if window::lack(w.base, marks, streams[r], snbases[r], w.l, w.d) != 0 {
+    if counts[r] != 0 {
         return w;
     }
     xor::zero_at(parity, r * w.p, w.p);
@@ -220,22 +309,23 @@ fn release_one(
 // Every record with none missing is released.
 pub fn release_all(
     w: Window,
-    marks: &[u8],
     parity: &mut [u8],
     streams: &mut [u8],
     snbases: &mut [u16],
     recoveries: &mut [u32],
     uses: &mut [u8],
+    counts: &[u8],
 ) -> Window
-    requires { ⌜ Kept w (record { window = w; store = stored [] [] (now marks) (now parity) (now streams) (now snbases) (now recoveries) (now uses); rebuilt = 0 }) ⌝ }
-    ensures { λ v. ⌜ ((m t : List ℕ) (b : ℕ) → record { window = v; store = stored m t (now (marks .entry)) (now (parity .exit)) (now (streams .exit)) (now (snbases .exit)) (now (recoveries .exit)) (now (uses .exit)); rebuilt = b }
-        ≡ releaseAll (record { window = w; store = stored m t (now (marks .entry)) (now (parity .entry)) (now (streams .entry)) (now (snbases .entry)) (now (recoveries .entry)) (now (uses .entry)); rebuilt = b })) ⌝ }
+    requires { ⌜ (w .k * w .p ≤ length (now parity)) × (w .k ≤ length (now streams)) × (w .k ≤ length (now snbases)) × (w .k ≤ length (now recoveries)) × (w .k ≤ length (now uses)) × (w .k ≤ length (now counts)) ⌝ }
+    ensures { λ v. ⌜ ((m t k : List ℕ) (b : ℕ) → Counted (w .k) w k (now (streams .entry)) (now (snbases .entry)) (now (uses .entry)) (now (counts .entry))
+        → scene v (stored m t k (now (parity .exit)) (now (streams .exit)) (now (snbases .exit)) (now (recoveries .exit)) (now (uses .exit))) b
+        ≡ releaseAll (scene w (stored m t k (now (parity .entry)) (now (streams .entry)) (now (snbases .entry)) (now (recoveries .entry)) (now (uses .entry))) b)) ⌝ }
 {
     let k = w.k;
     let mut v = w;
     let mut r = 0;
     while r < k {
-        let next = release_one(v, r, marks, parity, streams, snbases, recoveries, uses);
+        let next = release_one(v, r, parity, streams, snbases, recoveries, uses, counts);
         v = next;
         r += 1;
     }
@@ -250,7 +340,7 @@ pub struct Round {
     pub rebuilt: usize,
 }
 
-// The next record rebuilds its missing packet, and what is spent is released.
+// The next record rebuilds its missing packet, the counts go down, and what is spent is released.
 pub fn one_round(
     w: Window,
     media: &mut [u8],
@@ -261,14 +351,16 @@ pub fn one_round(
     snbases: &mut [u16],
     recoveries: &mut [u32],
     uses: &mut [u8],
+    counts: &mut [u8],
 ) -> Round
-    requires { ⌜ Kept w (scene w (stored (now media) (now timestamps) (now marks) (now parity) (now streams) (now snbases) (now recoveries) (now uses)) 0) × (w .n * w .p ≤ length (now media)) × (w .n ≤ length (now timestamps)) × (w .present < 1000) ⌝ }
+    requires { ⌜ Kept w (scene w (stored (now media) (now timestamps) (now marks) (now parity) (now streams) (now snbases) (now recoveries) (now uses)) 0) × (w .n * w .p ≤ length (now media)) × (w .n ≤ length (now timestamps)) × (w .present < 1000) × Counted (w .k) w (now marks) (now streams) (now snbases) (now uses) (now counts) ⌝ }
     ensures { λ r. ⌜ ((b : ℕ) → scene (r .window) (stored (now (media .exit)) (now (timestamps .exit)) (now (marks .exit)) (now (parity .exit)) (now (streams .exit)) (now (snbases .exit)) (now (recoveries .exit)) (now (uses .exit))) (b + r .rebuilt)
         ≡ round (scene w (stored (now (media .entry)) (now (timestamps .entry)) (now (marks .entry)) (now (parity .entry)) (now (streams .entry)) (now (snbases .entry)) (now (recoveries .entry)) (now (uses .entry))) b))
         × (r .rebuilt ≤ 1)
-        × (r .rebuilt ≡ 0 → next (scene w (stored (now (media .entry)) (now (timestamps .entry)) (now (marks .entry)) (now (parity .entry)) (now (streams .entry)) (now (snbases .entry)) (now (recoveries .entry)) (now (uses .entry))) 0) ≡ none) ⌝ }
+        × (r .rebuilt ≡ 0 → next (scene w (stored (now (media .entry)) (now (timestamps .entry)) (now (marks .entry)) (now (parity .entry)) (now (streams .entry)) (now (snbases .entry)) (now (recoveries .entry)) (now (uses .entry))) 0) ≡ none)
+        × Counted (r .window .k) (r .window) (now (marks .exit)) (now (streams .exit)) (now (snbases .exit)) (now (uses .exit)) (now (counts .exit)) ⌝ }
 {
-    let r = next_ready(w, marks, streams, snbases, uses);
+    let r = next_ready(w, streams, snbases, uses, counts);
     let k = w.k;
     if k <= r {
         return Round {
@@ -293,13 +385,14 @@ pub fn one_round(
         timestamps,
         marks,
     );
+    lower_counts(w, i, streams, snbases, uses, counts);
     let v = recounted(w, w.present + 1, w.in_use);
-    let window = release_all(v, marks, parity, streams, snbases, recoveries, uses);
+    let window = release_all(v, parity, streams, snbases, recoveries, uses, counts);
     Round { window, rebuilt: 1 }
 }
 
-// Rounds until no record is ready; the count goes on from the one given.
-pub fn settle(
+// Rounds until no record is ready, over counts that are made.
+fn all_rounds(
     w: Window,
     rebuilt: usize,
     media: &mut [u8],
@@ -310,8 +403,9 @@ pub fn settle(
     snbases: &mut [u16],
     recoveries: &mut [u32],
     uses: &mut [u8],
+    counts: &mut [u8],
 ) -> Round
-    requires { ⌜ Kept w (scene w (stored (now media) (now timestamps) (now marks) (now parity) (now streams) (now snbases) (now recoveries) (now uses)) 0) × (w .n * w .p ≤ length (now media)) × (w .n ≤ length (now timestamps)) × (w .present + w .«in_use» < 1000) × (rebuilt ≤ 1) ⌝ }
+    requires { ⌜ Kept w (scene w (stored (now media) (now timestamps) (now marks) (now parity) (now streams) (now snbases) (now recoveries) (now uses)) 0) × (w .n * w .p ≤ length (now media)) × (w .n ≤ length (now timestamps)) × (w .present + w .«in_use» < 1000) × (rebuilt ≤ 1) × Counted (w .k) w (now marks) (now streams) (now snbases) (now uses) (now counts) ⌝ }
     ensures { λ r. ⌜ scene (r .window) (stored (now (media .exit)) (now (timestamps .exit)) (now (marks .exit)) (now (parity .exit)) (now (streams .exit)) (now (snbases .exit)) (now (recoveries .exit)) (now (uses .exit))) (r .rebuilt)
         ≡ Rattle.settle.specs.Settle.settle (scene w (stored (now (media .entry)) (now (timestamps .entry)) (now (marks .entry)) (now (parity .entry)) (now (streams .entry)) (now (snbases .entry)) (now (recoveries .entry)) (now (uses .entry))) rebuilt) ⌝ }
 {
@@ -329,6 +423,7 @@ pub fn settle(
             snbases,
             recoveries,
             uses,
+            counts,
         );
         v = r.window;
         if r.rebuilt == 0 {
@@ -344,4 +439,41 @@ pub fn settle(
         window: v,
         rebuilt: done,
     }
+}
+
+// Rounds until no record is ready; the count goes on from the one given. The missing of each record are counted once.
+pub fn settle(
+    w: Window,
+    rebuilt: usize,
+    media: &mut [u8],
+    timestamps: &mut [u32],
+    marks: &mut [u8],
+    parity: &mut [u8],
+    streams: &mut [u8],
+    snbases: &mut [u16],
+    recoveries: &mut [u32],
+    uses: &mut [u8],
+) -> Round
+    requires { ⌜ Kept w (scene w (stored (now media) (now timestamps) (now marks) (now parity) (now streams) (now snbases) (now recoveries) (now uses)) 0) × (w .n * w .p ≤ length (now media)) × (w .n ≤ length (now timestamps)) × (w .present + w .«in_use» < 1000) × (rebuilt ≤ 1) ⌝ }
+    ensures { λ r. ⌜ scene (r .window) (stored (now (media .exit)) (now (timestamps .exit)) (now (marks .exit)) (now (parity .exit)) (now (streams .exit)) (now (snbases .exit)) (now (recoveries .exit)) (now (uses .exit))) (r .rebuilt)
+        ≡ Rattle.settle.specs.Settle.settle (scene w (stored (now (media .entry)) (now (timestamps .entry)) (now (marks .entry)) (now (parity .entry)) (now (streams .entry)) (now (snbases .entry)) (now (recoveries .entry)) (now (uses .entry))) rebuilt) ⌝ }
+{
+    if w.in_use == 0 {
+        return Round { window: w, rebuilt };
+    }
+    let mut counts = [0u8; 128];
+    count_all(w, marks, streams, snbases, uses, &mut counts);
+    all_rounds(
+        w,
+        rebuilt,
+        media,
+        timestamps,
+        marks,
+        parity,
+        streams,
+        snbases,
+        recoveries,
+        uses,
+        &mut counts,
+    )
 }

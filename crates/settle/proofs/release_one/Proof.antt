@@ -1,9 +1,8 @@
 -- `settle::release_one` meets its contract: each return is a way through `releaseSpent`. Assumes nothing.
-use mathlib.Core.Path.{_≡_, refl, sym, ap, _∙_}
+use mathlib.Core.Path.{refl, sym, _∙_}
+use Prim.Native.Nat.{_-_}
 use native.Mathlib.Omega.{arith}
-use borrow.Author.Tests.{eq-eqb}
-use Rattle.window.specs.Plain.{inside-more}
-use Rattle.settle.specs.Scan.{stored}
+use Rattle.settle.specs.Scan.{stored, scene}
 use Rattle.settle.proofs.Members.{row-ends}
 use Rattle.settle.proofs.Release.{free, waits, spent}
 use borrow.Author.Needs.{needs}
@@ -14,33 +13,27 @@ slice-read-if1 : tie.Need-slice-read-if1
 slice-read-if1 c = search needs
 
 returns : tie.Need-returns
-returns c = λ m t b. free _ (c .before .before .before .before .before .before .before .before .args .r) (c .if1 .taken)
+returns c = (refl, λ m t k b h. free _ (c .before .before .before .before .before .before .before .before .args .r) (c .if1 .taken))
 
-slice-read-lack : tie.Need-slice-read-lack
-slice-read-lack c = search needs
-
-mul-lack : tie.Need-mul-lack
-mul-lack c = search needs
-
-slice-read-lack-2 : tie.Need-slice-read-lack-2
-slice-read-lack-2 c = search needs
-
-lack-requires : tie.Need-lack-requires
-lack-requires c κs =
-    let the-pre = c .before .before .before .before .before .before .before .before .before .before .pre in
-    let i = the-pre .1 .inside (c .before .before .before .before .before .before .before .before .before .before .args .r) (the-pre .2) (eq-eqb _ 1 (c .before .before .if1 .left)) in (the-pre .0 .profile, inside-more 400 (the-pre .0 .n-high) i, inside-more _ (the-pre .3) i)
+shared-slice-read-if2 : tie.Need-shared-slice-read-if2
+shared-slice-read-if2 c = search needs
 
 returns-2 : tie.Need-returns-2
-returns-2 c = λ m t b. waits _ (c .before .before .before .before .before .before .before .before .before .before .before .before .args .r) (c .before .before .before .before .if1 .left) (λ e. c .if2 .taken (c .before .lack .ensures ∙ e))
+returns-2 c =
+    let the-args = c .before .before .before .before .before .before .before .before .before .before .args in
+    (refl, λ m t k b h. waits _ (the-args .r) (c .before .before .if1 .left) (λ e. c .if2 .taken (h .lacks (the-args .r) (c .before .before .before .before .before .before .before .before .before .before .pre .0) (c .before .before .if1 .left) ∙ e)))
 
 mul-zero-at : tie.Need-mul-zero-at
-mul-zero-at c = omega (arith, row-ends (c .before .before .before .before .before .before .before .before .before .before .before .before .before .before .args .r) (c .before .before .before .before .before .before .before .before .before .before .before .before .before .before .args .w .k) (c .before .before .before .before .before .before .before .before .before .before .before .before .before .before .args .w .p) _ (c .before .before .before .before .before .before .before .before .before .before .before .before .before .before .pre .2) (c .before .before .before .before .before .before .before .before .before .before .before .before .before .before .pre .4))
+mul-zero-at c =
+    let the-args = c .before .before .before .before .before .before .before .before .before .before .before .before .args in
+    let the-pre = c .before .before .before .before .before .before .before .before .before .before .before .before .pre in
+    omega (arith, row-ends (the-args .r) (the-args .w .k) (the-args .w .p) _ (the-pre .0) (the-pre .1))
 
 zero-at-requires : tie.Need-zero-at-requires
 zero-at-requires c κs =
-    let the-args = c .before .before .before .before .before .before .before .before .before .before .before .before .before .before .args in
-    let the-pre = c .before .before .before .before .before .before .before .before .before .before .before .before .before .before .pre in
-    row-ends (the-args .r) (the-args .w .k) (the-args .w .p) _ (the-pre .2) (the-pre .4)
+    let the-args = c .before .before .before .before .before .before .before .before .before .before .before .before .args in
+    let the-pre = c .before .before .before .before .before .before .before .before .before .before .before .before .pre in
+    row-ends (the-args .r) (the-args .w .k) (the-args .w .p) _ (the-pre .0) (the-pre .1)
 
 slice-write-streams : tie.Need-slice-write-streams
 slice-write-streams c = search needs
@@ -83,8 +76,12 @@ same-length-5 c = search needs
 
 returns-3 : tie.Need-returns-3
 returns-3 c =
-    let the-args = c .before .before .before .before .before .before .before .before .before .before .before .before .before .before .before .before .before .before .before .args in
-    λ m t b. rw (c .recounted .ensures, c .before .one-less .ensures, c .before .before .before .before .zero-at .ensures) (spent (record { window = the-args .w; store = stored m t (the-args .marks .now) (the-args .parity .now) (the-args .streams .now) (the-args .snbases .now) (the-args .recoveries .now) (the-args .uses .now); rebuilt = b }) (the-args .r) (c .before .before .before .before .before .before .before .before .before .before .before .if1 .left) (sym (c .before .before .before .before .before .before .before .before .lack .ensures) ∙ c .before .before .before .before .before .before .before .if2 .left))
+    let the-args = c .before .before .before .before .before .before .before .before .before .before .before .before .before .before .before .before .before .args in
+    let the-if1 = c .before .before .before .before .before .before .before .before .before .if1 in (
+      rw (c .recounted .ensures),
+      λ m t k b h. rw (c .recounted .ensures, c .before .one-less .ensures, c .before .before .before .before .zero-at .ensures)
+          (spent (scene (the-args .w) (stored m t k (the-args .parity .now) (the-args .streams .now) (the-args .snbases .now) (the-args .recoveries .now) (the-args .uses .now)) b) (the-args .r) (the-if1 .left) (sym (h .lacks (the-args .r) (c .before .before .before .before .before .before .before .before .before .before .before .before .before .before .before .before .before .pre .0) (the-if1 .left)) ∙ c .before .before .before .before .before .before .before .if2 .left)),
+    )
 
 pub release-one-spec : {M : Type 1} → statement M
 release-one-spec =
@@ -92,10 +89,7 @@ release-one-spec =
     (tie.spec
     slice-read-if1
     returns
-    slice-read-lack
-    mul-lack
-    slice-read-lack-2
-    lack-requires
+    shared-slice-read-if2
     returns-2
     mul-zero-at
     zero-at-requires
