@@ -9,7 +9,7 @@ use native.Mathlib.Omega.{arith}
 use lib.ListN.{length}
 use borrow.Author.Tests.{eq-eqb, not-true}
 use Rattle.answer.specs.declared.Answer.the-variants.{Done}
-use Rattle.sequence.specs.Lists.{upTo, count}
+use Rattle.sequence.specs.Lists.{upTo, count, length-upTo}
 use Rattle.window.specs.declared.Window.{Window}
 use Rattle.window.specs.Store.{Store, streamAt, snbaseAt}
 use Rattle.window.specs.Group.{group, lost, missing}
@@ -21,7 +21,7 @@ use Rattle.calls.specs.Call.{Outcome, settled}
 use Rattle.peel.specs.Group as Peel
 use Rattle.peel.specs.Peel.{Offer, media, check, View, gone, miss, Take, stop, go-on, Inv, inv-take, inv-steps}
 use Rattle.peel.specs.Rest.{Still, rounds}
-use Rattle.guarantee.specs.Ranges.{count-not, count-raise, first-kept, upTo-lt, length-upTo}
+use Rattle.guarantee.specs.Ranges.{count-not, count-raise, first-kept, upTo-lt}
 use Rattle.guarantee.specs.Packets.{Packet, xored, blank, packetOf}
 use Rattle.guarantee.specs.View.{Limits, Shaped, member-lt, recordAt, slotAt, Held, view, groupOf, slot-lost, miss-count, Good, Lacks, held-count}
 use Rattle.guarantee.specs.Changes.{fill-keeps, fill-new, put-filled, put-others, put-held, put-was-held, put-good, put-lacks, record-slot, record-held, record-was-held, record-use, use-same, stream-same, start-same, value-same, of-each, record-good}

@@ -7,7 +7,7 @@ use Prim.Native.Nat.{ℕ, zero, suc, _+_, _<_, _≤_}
 use native.Mathlib.Decide.{ℕ-discrete}
 use borrow.Author.Tests.{eq-eqb}
 use native.Mathlib.Omega.{arith}
-use lib.ListN.{length, length-append}
+use lib.ListN.{length}
 use lib.Dec.{eqb}
 use Rattle.sequence.specs.Lists.{or-split, upTo, all, any, keep, count, headOr}
 use Rattle.sequence.specs.Lists.{and-split as both}
@@ -122,11 +122,6 @@ module _ (test : ℕ → Bool) where
   pub count-zero : (l : List ℕ) → ((i : ℕ) → List·Memᴰ i l → test i ≡ false) → count test l ≡ 0
   count-zero [] h = refl
   count-zero (j ∷ l) h = rw (h j (List·Memᴰ·head refl)) (count-zero l (λ i m. h i (List·Memᴰ·tail m)))
-
--- there are n numbers below n
-pub length-upTo : (n : ℕ) → length (upTo n) ≡ n
-length-upTo zero = refl
-length-upTo (suc n) = let h = length-upTo n in omega (arith, length-append (upTo n) (n ∷ []))
 
 module _ (f h : ℕ → Bool) where
   -- two tests that agree on a list keep the same of it

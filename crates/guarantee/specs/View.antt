@@ -1,27 +1,26 @@
 -- The lent store as the theory of rebuilding sees it: a slot for each position, and the checks in hand; and what a store in order satisfies.
-use mathlib.Core.Path.{_≡_, refl, sym, ap, _∙_}
+use mathlib.Core.Path.{_≡_, refl, ap, _∙_}
 use mathlib.Core.Logic.{_≢_}
 use mathlib.Core.Bool.{Bool, true, false, not, cond, _&&_, true≢false}
 use mathlib.Core.Option.{Option, none, some}
-use mathlib.Core.List.{List, [], _∷_, map, List·Memᴰ, List·Memᴰ·head, Memᴰ·map}
-use Prim.Native.Nat.{ℕ, _+_, _*_, _^_, _<_, _≤_}
-use native.Mathlib.Nat.{mul-le-mul, le-of-mul-le-mul-right, le-of-eq, zero-mul}
+use mathlib.Core.List.{List, List·Memᴰ}
+use Prim.Native.Nat.{ℕ, _^_, _<_, _≤_}
 use native.Mathlib.Omega.{arith}
 use lib.ListN.{length, getD}
 use lib.Dec.{eqb, ltb}
-use borrow.Author.Tests.{eqb-true, eqb-false, ltb-true, lt-ltb, le-ltb}
-use Rattle.sequence.specs.Lists.{upTo, count, count-map}
-use Rattle.sequence.specs.Wrap.{ahead, member, ahead-lt, ahead-plain}
-use Rattle.rtp.specs.Fec.{offsetOf, naOf}
+use borrow.Author.Tests.{eqb-false, ltb-true, lt-ltb, le-ltb}
+use Rattle.sequence.specs.Lists.{upTo, count}
 use Rattle.rtp.specs.Faults.{noRow}
 use Rattle.window.specs.declared.Window.{Window}
 use Rattle.window.specs.Bounds.{SetUp, Sized}
+use Rattle.window.specs.Plain.{inside-of}
+use Rattle.settle.proofs.Counts.{group-once}
 use Rattle.window.specs.Store.{Store, payloadAt, timestampAt, parityAt, streamAt, snbaseAt, recoveryAt}
-use Rattle.window.specs.Group.{width, position, group, inside, lost, missing}
+use Rattle.window.specs.Group.{group, inside, lost, missing}
 use Rattle.window.specs.Order.{here, inUse, groupAt}
 use Rattle.peel.specs.Peel.{View, gone, miss}
 use Rattle.peel.specs.Group as Peel
-use Rattle.guarantee.specs.Ranges.{all-of, mem-upTo, count-keep, keep-ext, pigeon}
+use Rattle.guarantee.specs.Ranges.{all-of, count-keep, keep-ext}
 use Rattle.guarantee.specs.Packets.{Packet, packetOf}
 
 -- ---- a window within its limits, and the groups in it
@@ -41,61 +40,11 @@ pub record Shaped (w : Window) (stream start : ℕ) : Type 0 where
 pub member-lt : {w : Window} {stream start : ℕ} → Shaped w stream start → (i : ℕ) → List·Memᴰ i (group w stream start) → i < w .n
 member-lt {w} {stream} {start} S i m = ltb-true i (w .n) (all-of (λ j. ltb j (w .n)) (group w stream start) (S .within) i m)
 
--- Offset is at least 1
-step-positive : (b : Bool) (l : ℕ) → 1 ≤ l → 1 ≤ cond b l 1
-step-positive true l h = h
-step-positive false l h = omega arith
-
--- and at most 20
-step-small : (b : Bool) (l : ℕ) → l ≤ 20 → cond b l 1 ≤ 20
-step-small true l h = h
-step-small false l h = omega arith
-
--- NA is at most 20
-size-small : (b : Bool) (d l : ℕ) → d ≤ 20 → l ≤ 20 → cond b d l ≤ 20
-size-small true d l h k = h
-size-small false d l h k = k
-
--- equal multiples of a step are of equal numbers
-same-step : (q r k : ℕ) → 1 ≤ k → q * k ≡ r * k → q ≡ r
-same-step q r k h e =
-    let a : q ≤ r = le-of-mul-le-mul-right (le-of-eq e) h in
-    let b : r ≤ q = le-of-mul-le-mul-right (le-of-eq (sym e)) h in
-    omega arith
-
 -- the members of a group are different: no position stands in it twice
 pub once : {w : Window} → Limits w → {stream start : ℕ} → Shaped w stream start → (i : ℕ) → count (eqb i) (group w stream start) ≤ 1
-once {w} L {stream} {start} S i = rw (count-map (eqb i) (position w) (map (member width start off) (upTo na)), count-map (λ j. eqb i (position w j)) (member width start off) (upTo na))
-    (pigeon key (λ j. eqb i (key j)) na (i ∷ []) (λ r h t. List·Memᴰ·head (sym (eqb-true i (key r) t))) (λ q r hq hr a b e. apart q r hq hr e))
-  where
-    off : ℕ
-    off = offsetOf stream (w .l)
-
-    na : ℕ
-    na = naOf stream (w .l) (w .d)
-
-    key : ℕ → ℕ
-    key j = position w (member width start off j)
-
-    first : 0 < na → ahead 16 (w .base) start < w .n
-    first h =
-        let z : 0 * off ≡ 0 = zero-mul off in
-        let e : key 0 ≡ ahead 16 (w .base) start = ahead-plain 16 (w .base) (omega (arith, L .based)) start off 0 (rw z (omega (arith, ahead-lt 16 (w .base) start))) ∙ (rw z (omega arith)) in
-        let k = member-lt S (key 0) (Memᴰ·map (position w) (Memᴰ·map (member width start off) (mem-upTo na 0 h))) in
-        omega arith
-
-    plain : (j : ℕ) → j < na → key j ≡ ahead 16 (w .base) start + j * off
-    plain j h =
-        let p = first (omega arith) in
-        let z : na ≤ 20 = size-small (eqb stream 0) (w .d) (w .l) (L .set-up .profile .d-high) (L .set-up .profile .l-high) in
-        let q : j * off ≤ 20 * 20 = mul-le-mul {n₂ = 20} {m₂ = 20} (omega arith) (step-small (eqb stream 0) (w .l) (L .set-up .profile .l-high)) in
-        ahead-plain 16 (w .base) (omega (arith, L .based)) start off j (omega (arith, L .set-up .n-high))
-
-    apart : (q r : ℕ) → q < na → r < na → key q ≡ key r → q ≡ r
-    apart q r hq hr e =
-        let a = plain q hq in
-        let b = plain r hr in
-        same-step q r off (step-positive (eqb stream 0) (w .l) (L .set-up .profile .l-low)) (omega arith)
+once {w} L {stream} {start} S i =
+    group-once (w .base) (w .l) (w .d) stream start (w .n) (L .based) (L .set-up .profile) (L .set-up .n-high)
+    (inside-of (w .base) (w .l) (w .d) stream start (L .based) (L .set-up .profile) (w .n) (L .set-up .n-high) (S .within)) i
 
 -- ---- the view
 

@@ -1,18 +1,17 @@
 -- What is known of a media offer that no refusal applies to. Assumes nothing.
 use mathlib.Core.Path.{_≡_, refl, sym, ap, _∙_}
 use mathlib.Core.Bool.{Bool, true, false, not, cond, _&&_}
-use mathlib.Core.List.{List, [], _∷_, _++_}
-use Prim.Native.Nat.{ℕ, zero, suc, _+_, _*_, _^_, _<_, _≤_}
+use mathlib.Core.List.{List, _++_}
+use Prim.Native.Nat.{ℕ, _+_, _*_, _^_, _<_, _≤_}
 use native.Mathlib.Omega.{arith}
-use native.Mathlib.Numerals.{add-one}
-use lib.ListN.{length, take, drop, set, length-append}
+use lib.ListN.{length, take, drop, set}
 use lib.Seq.{paste}
 use lib.Dec.{ltb}
 use borrow.Author.Tests.{lt-ltb, ltb-true, ltb-false, eqb-true, not-false, ne-eqb, eq-eqb}
 use Rattle.answer.specs.declared.Answer.{Answer}
 use Rattle.answer.specs.declared.Answer.the-variants.{Done, Refused}
 use Rattle.answer.specs.First.{first, Numbered, None, first-none, first-front, first-back, first-stops, first-goes}
-use Rattle.sequence.specs.Lists.{upTo, keep, count, count-le, headOr}
+use Rattle.sequence.specs.Lists.{upTo, keep, count, count-le, length-upTo, headOr}
 use Rattle.rtp.specs.Rtp.{sequenceNumber, timestamp}
 use Rattle.rtp.specs.Fec.{snbase, timestampRecovery}
 use Rattle.rtp.specs.Faults.{mediaTests, parityTests}
@@ -35,10 +34,6 @@ use Rattle.offering.specs.Good.{ParityGood}
 use Rattle.calls.specs.Standing.{Standing, standing-good, standing-stops, standing-goes}
 
 -- ---- a standing window serves settling
-length-upTo : (n : ℕ) → length (upTo n) ≡ n
-length-upTo zero = refl
-length-upTo (suc n) = length-append (upTo n) (n ∷ []) ∙ ap (λ (k : ℕ). k + 1) (length-upTo n) ∙ add-one n
-
 module _ (w : Window) (s : Store) (room need : ℕ) (h : Standing w s room need) where
   pub kept-standing : w .base < 2 ^ 16 → Kept w (scene w s 0)
   kept-standing b =

@@ -2,26 +2,29 @@
 use mathlib.Core.Path.{_≡_, refl, sym, ap, _∙_, subst}
 use mathlib.Core.Bool.{Bool, true, false, cond, _&&_, _||_}
 use mathlib.Core.List.{List, [], _∷_}
-use Prim.Native.Nat.{ℕ, zero, suc, _+_, _*_, _-_, _%_, _<_, _≤_}
+use Prim.Native.Nat.{ℕ, zero, suc, _+_, _*_, _-_, _%_, _^_, _<_, _≤_}
 use native.Mathlib.Nat.{mul-le-mul-right, suc-mul, mul-mod-left, mul-add-mod-self-right, mod-eq-of-lt}
 use native.Mathlib.Numerals.{add-one}
 use native.Mathlib.Omega.{arith}
 use lib.Dec.{eqb, leb, ltb}
 use lib.ListN.{length, getD, set, length-set, length-map}
 use lib.Seq.{getD-set-same, getD-set-other}
-use borrow.Author.Tests.{eqb-true, eqb-false, eq-eqb, ne-eqb, ltb-true, ltb-false, leb-true}
-use Rattle.sequence.specs.Lists.{upTo, keep, count, headOr, count-le, count-more, count-map, length-upTo}
+use borrow.Author.Tests.{eqb-true, eqb-false, eq-eqb, ne-eqb, ltb-true, ltb-false, leb-true, leb-false}
+use Rattle.sequence.specs.Wrap.{ahead}
+use Rattle.rtp.specs.Fec.{offsetOf, naOf}
+use Rattle.sequence.specs.Lists.{or-split, upTo, keep, count, headOr, count-le, count-more, count-map, length-upTo}
 use Rattle.parity.specs.Rows.{line}
 use Rattle.window.specs.declared.Window.{Window}
 use Rattle.window.specs.Store.{Store}
 use Rattle.window.specs.Bounds.{Profile}
-use Rattle.window.specs.Plain.{groupOf, shape-of}
+use Rattle.window.specs.Plain.{groupOf, shape-of, Inside}
 use Rattle.window.specs.Order.{inUse}
 use Rattle.window.specs.InOrder.{tables}
 use Rattle.settle.specs.State.{State, recount, release}
 use Rattle.settle.specs.Scan.{unmarked, scene}
 use Rattle.settle.specs.Counts.{lackAt, standsAt, Counted, Lowered}
 use Rattle.settle.specs.Settle.{lack, ready, releaseBelow, releaseAll}
+use Rattle.settle.proofs.Members.{line-group}
 use Rattle.settle.proofs.Release.{one-elsewhere}
 
 -- ---- a position on a line of places
@@ -89,6 +92,26 @@ module _ (at offset i : ℕ) where
           let k = right-of n pos g in
           let q = count-map (eqb i) (λ j. at + j * offset) (upTo n) in
           rw (between n (omega (arith, d)) hi) (omega arith)
+
+-- a line has each place once
+line-once : (at offset i n : ℕ) → 1 ≤ offset → count (eqb i) (line at offset n) ≤ 1
+line-once at offset i n pos = go (ltb i at || leb (at + n * offset) i) refl
+  where
+    one : (t : Bool) → cond t 1 0 ≤ 1
+    one true = omega arith
+    one false = omega arith
+
+    go : (t : Bool) → (ltb i at || leb (at + n * offset) i) ≡ t → count (eqb i) (line at offset n) ≤ 1
+    go true e = omega (arith, beside at offset i n pos e)
+    go false e =
+        let s = or-split (ltb i at) (leb (at + n * offset) i) e in
+        rw (on-line at offset i n pos (ltb-false i at (s .0)) (leb-false (at + n * offset) i (s .1))) (one (eqb ((i - at) % offset) 0))
+
+-- the members of a group that lies in the window are different: no position stands in it twice
+pub group-once : (base l d stream start n : ℕ) → base < 2 ^ 16 → Profile l d → n ≤ 400 → Inside base l d stream start n → (i : ℕ) → count (eqb i) (groupOf base l d stream start) ≤ 1
+group-once base l d stream start n b prof small inside i =
+    rw (← line-group base l d stream start n (ahead 16 base start) (offsetOf stream l) (naOf stream l d) b prof small inside refl refl refl)
+    (line-once (ahead 16 base start) (offsetOf stream l) i (naOf stream l d) (shape-of l d stream prof .step-low))
 
 -- ---- one packet more
 
