@@ -461,7 +461,7 @@ pub fn settle(
     if w.in_use == 0 {
         return Round { window: w, rebuilt };
     }
-    let mut counts = [0u8; 128];
+    let mut counts = [0u8; window::MOST_RECORDS];
     count_all(w, marks, streams, snbases, uses, &mut counts);
     all_rounds(
         w,
