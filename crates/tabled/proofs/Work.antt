@@ -16,7 +16,6 @@ use Rattle.window.specs.declared.Window.{Window}
 use Rattle.window.specs.Store.{Store}
 use Rattle.settle.specs.Scan.{stored}
 use Rattle.calls.specs.Call.{Outcome, Written}
-use Rattle.records.specs.declared.Record.{Record}
 use Rattle.tabled.specs.declared.Finished.{Finished}
 use Rattle.tabled.specs.declared.Reply.{Reply}
 use Rattle.tabled.specs.Table.{Lent, Filled, columns, numbered, filled}

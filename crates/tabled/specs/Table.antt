@@ -5,12 +5,11 @@ use lib.ListN.{length, getD, take, drop}
 use Rattle.answer.specs.declared.Answer.{Answer}
 use Rattle.answer.specs.Number.{numberOf, countOf}
 use Rattle.sequence.specs.Lists.{upTo}
-use Rattle.rtp.specs.Fec.{column, row}
 use Rattle.window.specs.declared.Window.{Window}
 use Rattle.window.specs.Store.{Store, streamAt, snbaseAt, recoveryAt}
 use Rattle.settle.specs.Scan.{stored}
 use Rattle.calls.specs.Datagram.{Outer}
-use Rattle.calls.specs.Call.{Outcome, Written, asked, opened, offeredMedia, offeredParity, readOut, wroteParity}
+use Rattle.calls.specs.Call.{Outcome, Written, opened, offeredMedia, offeredParity, readOut, wroteParity}
 use Rattle.records.specs.declared.Record.{Record}
 use Rattle.tabled.specs.declared.Reply.{Reply}
 

@@ -1,14 +1,8 @@
 -- `tabled::by_number` meets its contract. Assumes nothing.
-use mathlib.Core.Path.{_≡_, refl, sym, ap, _∙_}
-use Prim.Native.Nat.{ℕ, _≤_, _<_, _-_, _+_, _*_}
-use native.Mathlib.Omega.{arith}
+use Prim.Native.Nat.{_-_}
 use borrow.Author.Needs.{needs}
 use Rattle.tabled.proofs.by_number.Statement.{statement}
 use Rattle.tabled.proofs.by_number.Tie as tie
-use Rattle.tabled.proofs.by_number.Reads as reads
-use Rattle.tabled.proofs.by_number.Lts as lts
-use Rattle.answer.proofs.count.Reads as count-reads
-use Rattle.answer.proofs.number.Reads as number-reads
 
 number-requires : tie.Need-number-requires
 number-requires c κs = search needs

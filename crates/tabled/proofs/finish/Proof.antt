@@ -1,15 +1,9 @@
 -- `tabled::finish` meets its contract. Assumes nothing.
-use mathlib.Core.Path.{_≡_, refl, sym, ap, _∙_}
-use Prim.Native.Nat.{ℕ, _≤_, _<_, _-_, _+_, _*_}
-use native.Mathlib.Omega.{arith}
+use Prim.Native.Nat.{_-_}
 use borrow.Author.Needs.{needs}
 use Rattle.tabled.proofs.Columns.{written, not-written}
 use Rattle.tabled.proofs.finish.Statement.{statement}
 use Rattle.tabled.proofs.finish.Tie as tie
-use Rattle.tabled.proofs.finish.Reads as reads
-use Rattle.tabled.proofs.finish.Lts as lts
-use Rattle.tabled.proofs.by_number.Reads as by-number-reads
-use Rattle.tabled.proofs.to_rows.Reads as to-rows-reads
 
 by-number-requires : tie.Need-by-number-requires
 by-number-requires c κs = search needs

@@ -1,6 +1,6 @@
 -- `tabled::media_rows` meets its contract. Assumes nothing.
-use mathlib.Core.Path.{_≡_, refl, sym, ap, _∙_}
-use Prim.Native.Nat.{ℕ, _≤_, _<_, _-_, _+_, _*_}
+use mathlib.Core.Path.{sym}
+use Prim.Native.Nat.{ℕ, _-_}
 use native.Mathlib.Omega.{arith}
 use borrow.Author.Needs.{needs}
 use mathlib.Core.Path.{subst}
@@ -10,12 +10,6 @@ use Rattle.tabled.specs.Work.{Worked}
 use Rattle.tabled.proofs.Work.{back-full, worked}
 use Rattle.tabled.proofs.media_rows.Statement.{statement}
 use Rattle.tabled.proofs.media_rows.Tie as tie
-use Rattle.tabled.proofs.media_rows.Reads as reads
-use Rattle.tabled.proofs.media_rows.Lts as lts
-use Rattle.offering.proofs.offer_media.Reads as offer-media-reads
-use Rattle.records.proofs.reach.Reads as reach-reads
-use Rattle.tabled.proofs.finish.Reads as finish-reads
-use Rattle.tabled.proofs.to_columns.Reads as to-columns-reads
 
 reach-requires : tie.Need-reach-requires
 reach-requires c κs = search needs

@@ -1,6 +1,6 @@
 -- `tabled::read_rows` meets its contract. Assumes nothing.
-use mathlib.Core.Path.{_≡_, refl, sym, ap, _∙_}
-use Prim.Native.Nat.{ℕ, _≤_, _<_, _-_, _+_, _*_}
+use mathlib.Core.Path.{_≡_, sym}
+use Prim.Native.Nat.{ℕ, _-_}
 use native.Mathlib.Omega.{arith}
 use borrow.Author.Needs.{needs}
 use mathlib.Core.Path.{subst}
@@ -11,12 +11,6 @@ use Rattle.tabled.specs.Table.{columns, filled}
 use Rattle.tabled.proofs.Work.{filled-is}
 use Rattle.tabled.proofs.read_rows.Statement.{statement}
 use Rattle.tabled.proofs.read_rows.Tie as tie
-use Rattle.tabled.proofs.read_rows.Reads as reads
-use Rattle.tabled.proofs.read_rows.Lts as lts
-use Rattle.reading.proofs.read_out.Reads as read-out-reads
-use Rattle.records.proofs.reach.Reads as reach-reads
-use Rattle.tabled.proofs.by_number.Reads as by-number-reads
-use Rattle.tabled.proofs.to_columns.Reads as to-columns-reads
 
 reach-requires : tie.Need-reach-requires
 reach-requires c κs = search needs

@@ -1,6 +1,6 @@
 -- `tabled::to_columns` meets its contract. Assumes nothing.
-use mathlib.Core.Path.{_≡_, refl, sym, ap, subst, _∙_}
-use Prim.Native.Nat.{ℕ, _≤_, _<_, _-_, _+_, _*_}
+use mathlib.Core.Path.{_≡_, refl, subst, _∙_}
+use Prim.Native.Nat.{ℕ, _≤_, _-_}
 use native.Mathlib.Omega.{arith}
 use borrow.Author.Needs.{needs}
 use lib.ListN.{length, length-set, getD}
@@ -11,8 +11,6 @@ use Rattle.tabled.specs.Work.{Alike}
 use Rattle.tabled.proofs.Columns.{alike-none, alike-row}
 use Rattle.tabled.proofs.to_columns.Statement.{statement}
 use Rattle.tabled.proofs.to_columns.Tie as tie
-use Rattle.tabled.proofs.to_columns.Reads as reads
-use Rattle.tabled.proofs.to_columns.Lts as lts
 
 abbrev Inv-loop : tie.InvT-loop
 Inv-loop m streams₀ snbases₀ recoveries₀ uses₀ rows i₀ streams snbases recoveries uses i =

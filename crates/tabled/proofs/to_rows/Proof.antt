@@ -1,18 +1,14 @@
 -- `tabled::to_rows` meets its contract. Assumes nothing.
-use mathlib.Core.Path.{_≡_, refl, sym, ap, subst, _∙_}
-use Prim.Native.Nat.{ℕ, _≤_, _<_, _-_, _+_, _*_}
+use mathlib.Core.Path.{_≡_, subst, _∙_}
+use Prim.Native.Nat.{ℕ, _≤_, _-_}
 use native.Mathlib.Omega.{arith}
 use borrow.Author.Needs.{needs}
 use lib.ListN.{length, length-set, getD}
-use mathlib.Core.List.{List}
 use Rattle.records.specs.declared.Record.{Record}
-use Rattle.records.specs.Table.{blank}
 use Rattle.tabled.specs.Work.{Alike}
 use Rattle.tabled.proofs.Columns.{alike-none, alike-columns}
 use Rattle.tabled.proofs.to_rows.Statement.{statement}
 use Rattle.tabled.proofs.to_rows.Tie as tie
-use Rattle.tabled.proofs.to_rows.Reads as reads
-use Rattle.tabled.proofs.to_rows.Lts as lts
 
 abbrev Inv-loop : tie.InvT-loop
 Inv-loop m streams snbases recoveries uses out₀ i₀ out i = (i ≤ m) × (length out ≡ 128) × Alike i out streams snbases recoveries uses
