@@ -1,0 +1,3 @@
+pub mod Shape
+pub mod Demand3
+pub mod Theorem
