@@ -1,0 +1,125 @@
+//! The C face, as include/congaveil.h declares it. Every use of it is in `Receiver`.
+use crate::Record;
+
+#[repr(C)]
+#[derive(Clone, Copy, Debug, Default, PartialEq, Eq)]
+pub struct Window {
+    pub base: u16,
+    pub ssrc: u32,
+    pub l: usize,
+    pub d: usize,
+    pub p: usize,
+    pub n: usize,
+    pub k: usize,
+    pub present: usize,
+    pub in_use: usize,
+}
+
+#[repr(C)]
+pub struct Answer {
+    pub number: u32,
+    pub count: usize,
+    pub window: Window,
+}
+
+/// An offer: window value, datagram, and the store, each part with its length.
+pub type Offer = unsafe extern "C" fn(
+    w: Window,
+    datagram: *const u8,
+    len: usize,
+    media: *mut u8,
+    media_len: usize,
+    timestamps: *mut u32,
+    timestamps_len: usize,
+    marks: *mut u8,
+    marks_len: usize,
+    parity: *mut u8,
+    parity_len: usize,
+    records: *mut Record,
+    records_len: usize,
+) -> Answer;
+
+/// Writing parity: window value, SNBase, the caller's header fields, the store, and the output.
+pub type Write = unsafe extern "C" fn(
+    w: Window,
+    snbase: u16,
+    sequence: u16,
+    timestamp: u32,
+    ssrc: u32,
+    media: *const u8,
+    media_len: usize,
+    timestamps: *const u32,
+    timestamps_len: usize,
+    marks: *const u8,
+    marks_len: usize,
+    parity: *const u8,
+    parity_len: usize,
+    records: *const Record,
+    records_len: usize,
+    out: *mut u8,
+    out_len: usize,
+) -> Answer;
+
+macro_rules! offers {
+    ($($name:ident),*) => { $(
+        pub fn $name(
+            w: Window, datagram: *const u8, len: usize,
+            media: *mut u8, media_len: usize, timestamps: *mut u32, timestamps_len: usize, marks: *mut u8, marks_len: usize,
+            parity: *mut u8, parity_len: usize, records: *mut Record, records_len: usize,
+        ) -> Answer;
+    )* };
+}
+
+macro_rules! writes {
+    ($($name:ident),*) => { $(
+        pub fn $name(
+            w: Window, snbase: u16, sequence: u16, timestamp: u32, ssrc: u32,
+            media: *const u8, media_len: usize, timestamps: *const u32, timestamps_len: usize, marks: *const u8, marks_len: usize,
+            parity: *const u8, parity_len: usize, records: *const Record, records_len: usize, out: *mut u8, out_len: usize,
+        ) -> Answer;
+    )* };
+}
+
+extern "C" {
+    pub fn cgv_open(
+        base: u16,
+        l: usize,
+        d: usize,
+        p: usize,
+        n: usize,
+        k: usize,
+        ssrc: u32,
+        media: *mut u8,
+        media_len: usize,
+        timestamps: *mut u32,
+        timestamps_len: usize,
+        marks: *mut u8,
+        marks_len: usize,
+        parity: *mut u8,
+        parity_len: usize,
+        records: *mut Record,
+        records_len: usize,
+    ) -> Answer;
+
+    pub fn cgv_read(
+        w: Window,
+        number: u16,
+        media: *const u8,
+        media_len: usize,
+        timestamps: *const u32,
+        timestamps_len: usize,
+        marks: *const u8,
+        marks_len: usize,
+        parity: *const u8,
+        parity_len: usize,
+        records: *const Record,
+        records_len: usize,
+        out: *mut u8,
+        out_len: usize,
+    ) -> Answer;
+}
+
+extern "C" {
+    offers!(cgv_media, cgv_column, cgv_row);
+    writes!(cgv_write_column, cgv_write_row);
+}

@@ -1,0 +1,83 @@
+use crate::SetUp;
+
+/// A parity packet in hand; its payload stands at the same index of the parity part.
+#[repr(C)]
+#[derive(Clone, Copy, Debug, Default, PartialEq, Eq)]
+pub struct Record {
+    /// 0 a column, 1 a row.
+    pub stream: u8,
+    pub snbase: u16,
+    pub timestamp_recovery: u32,
+    /// 1, or 0 where the record is free.
+    pub in_use: u8,
+}
+
+/// A store that is lent: n × P bytes of media, n timestamps, n marks, K × P bytes of parity and K records, or more.
+#[derive(Debug)]
+pub struct Lent<'a> {
+    pub media: &'a mut [u8],
+    pub timestamps: &'a mut [u32],
+    pub marks: &'a mut [u8],
+    pub parity: &'a mut [u8],
+    pub records: &'a mut [Record],
+}
+
+/// The parts of a store, to be read.
+#[derive(Clone, Copy, Debug)]
+pub struct Shown<'a> {
+    pub media: &'a [u8],
+    pub timestamps: &'a [u32],
+    pub marks: &'a [u8],
+    pub parity: &'a [u8],
+    pub records: &'a [Record],
+}
+
+/// A store of its own.
+#[derive(Clone, Debug, Default, PartialEq, Eq)]
+pub struct Owned {
+    media: Vec<u8>,
+    timestamps: Vec<u32>,
+    marks: Vec<u8>,
+    parity: Vec<u8>,
+    records: Vec<Record>,
+}
+
+impl Owned {
+    /// As much as a window of this set-up needs, which is permitted: at most 400 × 1,428 and 128 × 1,428 bytes.
+    pub(crate) fn of(set_up: &SetUp) -> Self {
+        let SetUp { payload: p, positions: n, records: k, .. } = *set_up;
+        Owned { media: vec![0; n * p], timestamps: vec![0; n], marks: vec![0; n], parity: vec![0; k * p], records: vec![Record::default(); k] }
+    }
+}
+
+mod sealed {
+    pub trait Sealed {}
+    impl Sealed for super::Owned {}
+    impl Sealed for super::Lent<'_> {}
+}
+
+/// What a receiver is kept in. Only [`Owned`] and [`Lent`] are stores: a receiver counts on the same parts at every call.
+pub trait Store: sealed::Sealed {
+    #[doc(hidden)]
+    fn lent(&mut self) -> Lent<'_>;
+    #[doc(hidden)]
+    fn shown(&self) -> Shown<'_>;
+}
+
+impl Store for Owned {
+    fn lent(&mut self) -> Lent<'_> {
+        Lent { media: &mut self.media, timestamps: &mut self.timestamps, marks: &mut self.marks, parity: &mut self.parity, records: &mut self.records }
+    }
+    fn shown(&self) -> Shown<'_> {
+        Shown { media: &self.media, timestamps: &self.timestamps, marks: &self.marks, parity: &self.parity, records: &self.records }
+    }
+}
+
+impl Store for Lent<'_> {
+    fn lent(&mut self) -> Lent<'_> {
+        Lent { media: self.media, timestamps: self.timestamps, marks: self.marks, parity: self.parity, records: self.records }
+    }
+    fn shown(&self) -> Shown<'_> {
+        Shown { media: self.media, timestamps: self.timestamps, marks: self.marks, parity: self.parity, records: self.records }
+    }
+}

@@ -1,0 +1,354 @@
+/* The C face: every number of document 01 is reached through it, a refusal changes nothing that was lent, and nothing is
+ * touched past a buffer's need. The buffers come from malloc with not a byte to spare, or with spare elements that are
+ * watched; under valgrind a step past either is an error. Prints how many calls were made; exits 1 at the first difference. */
+#include "congaveil.h"
+#include <stdio.h>
+#include <stdlib.h>
+#include <string.h>
+
+enum { L = 4, D = 4, P = 188, N = 16, K = 8, BASE = 65530, SPARE = 5 };
+
+static size_t calls, spare;
+static int reached[18];
+
+struct bench {
+    struct cgv_receiver r;
+    struct cgv_store before;
+};
+
+static void *room(size_t bytes)
+{
+    void *p = malloc(bytes);
+    if (!p)
+        exit(2);
+    memset(p, 0xA5, bytes);
+    return p;
+}
+
+static struct cgv_store new_store(size_t n, size_t p, size_t k)
+{
+    struct cgv_store s;
+    s.media_len = n * p + spare;
+    s.timestamps_len = n + spare;
+    s.marks_len = n + spare;
+    s.parity_len = k * p + spare;
+    s.records_len = k + spare;
+    s.media = room(s.media_len);
+    s.timestamps = room(s.timestamps_len * sizeof *s.timestamps);
+    s.marks = room(s.marks_len);
+    s.parity = room(s.parity_len);
+    s.records = room(s.records_len * sizeof *s.records);
+    return s;
+}
+
+static void copy_store(struct cgv_store *to, const struct cgv_store *from)
+{
+    memcpy(to->media, from->media, from->media_len);
+    memcpy(to->timestamps, from->timestamps, from->timestamps_len * sizeof *from->timestamps);
+    memcpy(to->marks, from->marks, from->marks_len);
+    memcpy(to->parity, from->parity, from->parity_len);
+    memcpy(to->records, from->records, from->records_len * sizeof *from->records);
+}
+
+static int same_record(const struct cgv_record *a, const struct cgv_record *b)
+{
+    return a->stream == b->stream && a->snbase == b->snbase && a->in_use == b->in_use &&
+           a->timestamp_recovery == b->timestamp_recovery;
+}
+
+static int same_from(const struct cgv_store *a, const struct cgv_store *b, size_t n, size_t p, size_t k)
+{
+    size_t i;
+    for (i = k; i < a->records_len; i++)
+        if (!same_record(&a->records[i], &b->records[i]))
+            return 0;
+    return !memcmp(a->media + n * p, b->media + n * p, a->media_len - n * p) &&
+           !memcmp(a->timestamps + n, b->timestamps + n, (a->timestamps_len - n) * sizeof *a->timestamps) &&
+           !memcmp(a->marks + n, b->marks + n, a->marks_len - n) &&
+           !memcmp(a->parity + k * p, b->parity + k * p, a->parity_len - k * p);
+}
+
+static int same_window(struct cgv_window a, struct cgv_window b)
+{
+    return a.base == b.base && a.ssrc == b.ssrc && a.l == b.l && a.d == b.d && a.p == b.p && a.n == b.n && a.k == b.k &&
+           a.present == b.present && a.in_use == b.in_use;
+}
+
+static void free_store(struct cgv_store s)
+{
+    free(s.media);
+    free(s.timestamps);
+    free(s.marks);
+    free(s.parity);
+    free(s.records);
+}
+
+static struct bench new_bench(size_t n, size_t p, size_t k)
+{
+    struct bench b;
+    memset(&b, 0, sizeof b);
+    b.r.store = new_store(n, p, k);
+    b.before = new_store(n, p, k);
+    return b;
+}
+
+static void end_bench(struct bench *b)
+{
+    free_store(b->r.store);
+    free_store(b->before);
+}
+
+static void fail(const char *what, struct cgv_answer a)
+{
+    fprintf(stderr, "%s: answered %u, count %zu\n", what, (unsigned)a.number, a.count);
+    exit(1);
+}
+
+/* What must hold of every answer; w is the window value that went in, and only an accepted call that changes the store may
+ * do so, and only within its need. */
+static void check(const char *what, struct bench *b, struct cgv_window w, struct cgv_answer a, uint32_t number, size_t count,
+                  int changes)
+{
+    int all = number || !changes;
+    calls++;
+    if (a.number != number || a.count != count)
+        fail(what, a);
+    reached[number] = 1;
+    if (number && !same_window(a.window, w))
+        fail("a refusal changed the window value", a);
+    if (!same_from(&b->r.store, &b->before, all ? 0 : N, P, all ? 0 : w.k))
+        fail("something was touched that is not to be", a);
+}
+
+static void opens(const char *what, struct bench *b, size_t l, size_t d, size_t p, size_t n, size_t k, uint32_t number)
+{
+    struct cgv_window zeros;
+    struct cgv_answer a;
+    memset(&zeros, 0, sizeof zeros);
+    copy_store(&b->before, &b->r.store);
+    a = cgv_receiver_open(&b->r, BASE, l, d, p, n, k, 7);
+    if (!number)
+        zeros.k = k;
+    check(what, b, zeros, a, number, 0, 1);
+}
+
+typedef struct cgv_answer (*offer_fn)(struct cgv_receiver *, const uint8_t *, size_t);
+
+static void offers(const char *what, struct bench *b, offer_fn offer, const uint8_t *datagram, size_t len, uint32_t number, size_t count)
+{
+    struct cgv_window w = b->r.window;
+    uint8_t *exact = room(len ? len : 1);
+    memcpy(exact, datagram, len);
+    copy_store(&b->before, &b->r.store);
+    check(what, b, w, offer(&b->r, exact, len), number, count, 1);
+    if (memcmp(exact, datagram, len)) {
+        fprintf(stderr, "%s: the datagram was changed\n", what);
+        exit(1);
+    }
+    free(exact);
+}
+
+/* ---- datagrams of a stretch whose packet of a number has this timestamp and these bytes */
+
+static uint32_t stamp(uint16_t number) { return 3000u * number + 5; }
+static uint8_t byte_of(uint16_t number, size_t i) { return (uint8_t)(number * 31u + i * 7u + (number >> 5)); }
+
+static size_t rtp(uint8_t *g, uint8_t type, uint16_t number, uint32_t time)
+{
+    memset(g, 0, CGV_MEDIA_HEADER);
+    g[0] = 0x80;
+    g[1] = type;
+    g[2] = (uint8_t)(number >> 8);
+    g[3] = (uint8_t)number;
+    g[4] = (uint8_t)(time >> 24);
+    g[5] = (uint8_t)(time >> 16);
+    g[6] = (uint8_t)(time >> 8);
+    g[7] = (uint8_t)time;
+    return CGV_MEDIA_HEADER;
+}
+
+static size_t media(uint8_t *g, uint16_t number)
+{
+    size_t i;
+    rtp(g, 33, number, stamp(number));
+    for (i = 0; i < P; i++)
+        g[12 + i] = byte_of(number, i);
+    return 12 + P;
+}
+
+static size_t parity(uint8_t *g, int row, uint16_t start)
+{
+    uint16_t offset = row ? 1 : L, na = row ? L : D, j;
+    uint32_t t = 0;
+    size_t i;
+    rtp(g, 96, 1, 2);
+    memset(g + 12, 0, 16 + P);
+    for (j = 0; j < na; j++) {
+        uint16_t number = (uint16_t)(start + j * offset);
+        t ^= stamp(number);
+        for (i = 0; i < P; i++)
+            g[28 + i] ^= byte_of(number, i);
+    }
+    g[12] = (uint8_t)(start >> 8);
+    g[13] = (uint8_t)start;
+    g[16] = 0x80;
+    g[20] = (uint8_t)(t >> 24);
+    g[21] = (uint8_t)(t >> 16);
+    g[22] = (uint8_t)(t >> 8);
+    g[23] = (uint8_t)t;
+    g[24] = row ? 0x40 : 0;
+    g[25] = (uint8_t)offset;
+    g[26] = (uint8_t)na;
+    return 28 + P;
+}
+
+/* ---- the cases */
+
+static void set_ups(void)
+{
+    struct bench b = new_bench(N, P, K);
+    uint8_t g[28 + P];
+    opens("L 21", &b, 21, 4, P, N, K, 1);
+    offers("a window value of zeros", &b, cgv_receiver_media, g, media(g, BASE), 1, 0);
+    opens("P 187", &b, L, D, 187, N, K, 2);
+    opens("n 15", &b, L, D, P, 15, K, 3);
+    opens("K 0", &b, L, D, P, N, 0, 3);
+    opens("n 400", &b, L, D, P, 400, K, 4);
+    b.r.store.records_len = K - 1;
+    opens("K - 1 records", &b, L, D, P, N, K, 4);
+    b.r.store.records_len = K + spare;
+    opens("opens", &b, L, D, P, N, K, 0);
+    end_bench(&b);
+}
+
+static void media_offers(void)
+{
+    struct bench b = new_bench(N, P, K);
+    uint8_t g[28 + P];
+    size_t len = 12 + P;
+    opens("opens", &b, L, D, P, N, K, 0);
+    media(g, BASE);
+    b.r.store.marks_len = N - 1;
+    offers("n - 1 marks", &b, cgv_receiver_media, g, len, 4, 0);
+    b.r.store.marks_len = N + spare;
+    b.r.store.marks[3] = 2;
+    offers("a mark of 2", &b, cgv_receiver_media, g, len, 5, 0);
+    b.r.store.marks[3] = 0;
+    offers("11 bytes", &b, cgv_receiver_media, g, 11, 6, 0);
+    g[0] = 0x40;
+    offers("version 1", &b, cgv_receiver_media, g, len, 7, 0);
+    g[0] = 0x80;
+    g[1] = 96;
+    offers("type 96", &b, cgv_receiver_media, g, len, 8, 0);
+    g[1] = 33;
+    offers("a byte short", &b, cgv_receiver_media, g, len - 1, 9, 0);
+    media(g, BASE - 1);
+    offers("before the base", &b, cgv_receiver_media, g, len, 13, 0);
+    media(g, BASE);
+    offers("taken", &b, cgv_receiver_media, g, len, 0, 0);
+    offers("again", &b, cgv_receiver_media, g, len, 14, 0);
+    g[12 + P - 1] ^= 1;
+    offers("and different", &b, cgv_receiver_media, g, len, 15, 0);
+    end_bench(&b);
+}
+
+static void parity_offers(void)
+{
+    struct bench b = new_bench(N, P, K);
+    uint8_t g[28 + P];
+    size_t len = 28 + P;
+    opens("opens", &b, L, D, P, N, 1, 0);
+    parity(g, 0, BASE);
+    offers("27 bytes", &b, cgv_receiver_column, g, 27, 6, 0);
+    g[16] = 0;
+    offers("E 0", &b, cgv_receiver_column, g, len, 10, 0);
+    g[16] = 0x80 | 33;
+    offers("PT recovery 33", &b, cgv_receiver_column, g, len, 11, 0);
+    g[16] = 0x80;
+    offers("a column on the row port", &b, cgv_receiver_row, g, len, 12, 0);
+    parity(g, 0, (uint16_t)(BASE + 4));
+    offers("a member outside", &b, cgv_receiver_column, g, len, 13, 0);
+    parity(g, 1, BASE);
+    offers("held", &b, cgv_receiver_row, g, len, 0, 0);
+    offers("again", &b, cgv_receiver_row, g, len, 14, 0);
+    g[20] ^= 1;
+    offers("and different", &b, cgv_receiver_row, g, len, 15, 0);
+    parity(g, 0, BASE);
+    offers("no record free", &b, cgv_receiver_column, g, len, 16, 0);
+    end_bench(&b);
+}
+
+/* The night: a column across the wrap, one packet lost; then case 11 of the bench, three rebuilt at a stroke. */
+static void rebuilds(void)
+{
+    struct bench b = new_bench(N, P, K);
+    uint8_t g[28 + P], out[28 + P + 1], again[28 + P];
+    struct cgv_answer a;
+    size_t i;
+    opens("opens", &b, L, D, P, N, K, 0);
+    for (i = 0; i < N; i++) {
+        if (i == 0 || i == 1 || i == 4 || i == 5)
+            continue;
+        media(g, (uint16_t)(BASE + i));
+        offers("media", &b, cgv_receiver_media, g, 12 + P, 0, 0);
+    }
+    for (i = 0; i < 2; i++) {
+        parity(g, 0, (uint16_t)(BASE + i));
+        offers("column", &b, cgv_receiver_column, g, 28 + P, 0, 0);
+        parity(g, 1, (uint16_t)(BASE + 4 * i));
+        offers("row", &b, cgv_receiver_row, g, 28 + P, 0, 0);
+    }
+    copy_store(&b.before, &b.r.store);
+    memset(out, 0xA5, sizeof out);
+    a = cgv_receiver_read(&b.r, BASE, out, 12 + P);
+    check("reading a missing packet", &b, b.r.window, a, 17, 0, 0);
+    a = cgv_receiver_write_column(&b.r, BASE, 7, 0, 0, out, 28 + P);
+    check("parity over a missing packet", &b, b.r.window, a, 17, 0, 0);
+    a = cgv_receiver_read(&b.r, BASE, out, 11 + P);
+    check("a short output", &b, b.r.window, a, 4, 0, 0);
+    for (i = 0; i < sizeof out; i++)
+        if (out[i] != 0xA5)
+            fail("a refusal wrote to the output", a);
+    media(g, (uint16_t)(BASE + 5));
+    offers("case 11", &b, cgv_receiver_media, g, 12 + P, 0, 3);
+    if (b.r.window.present != N || b.r.window.in_use != 0)
+        fail("case 11: not all present", a);
+    copy_store(&b.before, &b.r.store);
+    for (i = 0; i < N; i++) {
+        uint16_t number = (uint16_t)(BASE + i);
+        a = cgv_receiver_read(&b.r, number, out, sizeof out);
+        check("reads", &b, b.r.window, a, 0, 12 + P, 0);
+        media(again, number);
+        again[11] = 7;
+        if (memcmp(out, again, 12 + P) || out[12 + P] != 0xA5 || !cgv_receiver_has(&b.r, number))
+            fail("a packet read out is not the one sent", a);
+    }
+    for (i = 0; i < 2; i++) {
+        uint16_t start = (uint16_t)(BASE + 1);
+        memset(out, 0xA5, sizeof out);
+        a = i ? cgv_receiver_write_row(&b.r, start, 1, 2, 0, out, sizeof out) : cgv_receiver_write_column(&b.r, start, 1, 2, 0, out, sizeof out);
+        check("writes", &b, b.r.window, a, 0, 28 + P, 0);
+        parity(again, (int)i, start);
+        if (memcmp(out, again, 28 + P) || out[28 + P] != 0xA5)
+            fail("parity written is not that of the group", a);
+    }
+    end_bench(&b);
+}
+
+int main(void)
+{
+    uint32_t number;
+    for (spare = 0; spare <= SPARE; spare += SPARE) {
+        set_ups();
+        media_offers();
+        parity_offers();
+        rebuilds();
+    }
+    for (number = 0; number <= 17; number++)
+        if (!reached[number]) {
+            fprintf(stderr, "number %u was not reached: %s\n", (unsigned)number, cgv_message(number));
+            return 1;
+        }
+    printf("C face: %zu calls as they must be, every number from 0 to 17\n", calls);
+    return 0;
+}
