@@ -4,7 +4,7 @@
  *     card FILE L D PAYLOAD
  *
  * A capture is a run of entries: one byte of kind (1 media, 2 column parity, 3 row parity), two bytes of length, big-endian,
- * and the datagram. Lost here: packets 8 to 12, a burst, and every 17th. */
+ * and the datagram. Lost here: packets 8 to 12, a burst of 16 from 40 on, and every 17th. */
 #include <congaveil.h>
 #include <stdio.h>
 #include <stdlib.h>
@@ -15,7 +15,10 @@ static uint8_t media[POSITIONS * LARGEST], marks[POSITIONS], parity[RECORDS * LA
 static uint32_t timestamps[POSITIONS];
 static struct cgv_record records[RECORDS];
 
-static int lost(size_t position) { return (position >= 8 && position < 13) || position % 17 == 16; }
+static int lost(size_t position)
+{
+    return (position >= 8 && position < 13) || (position >= 40 && position < 56) || position % 17 == 16;
+}
 
 static uint16_t number_of(const uint8_t *datagram) { return (uint16_t)(datagram[2] << 8 | datagram[3]); }
 
@@ -74,7 +77,8 @@ int main(int argc, char **argv)
         a = kind == 1 ? cgv_receiver_media(&card, datagram, len)
                       : kind == 2 ? cgv_receiver_column(&card, datagram, len) : cgv_receiver_row(&card, datagram, len);
         rebuilt += a.count;
-        refused += a.number != CGV_DONE && a.number != CGV_OUTSIDE;
+        /* past the window, or rebuilt before it came: nothing to worry about */
+        refused += a.number != CGV_DONE && a.number != CGV_OUTSIDE && a.number != CGV_REPEAT;
     }
     fclose(f);
     printf("window from %u, %zu of %zu packets present, %zu rebuilt, %zu datagrams refused\n", (unsigned)card.window.base,

@@ -1,6 +1,7 @@
 //! The C face, as include/congaveil.h declares it. Every use of it is in `Receiver`.
 use crate::Record;
 
+/// A window value: what a window was opened with, and how many packets are present and records in use.
 #[repr(C)]
 #[derive(Clone, Copy, Debug, Default, PartialEq, Eq)]
 pub struct Window {

@@ -29,6 +29,7 @@ mod face;
 mod refusal;
 mod store;
 
+pub use face::Window;
 pub use refusal::Refusal;
 pub use store::{Lent, Owned, Record, Store};
 
@@ -66,7 +67,7 @@ pub struct Outer {
 
 /// A window over consecutive packets, and the store that it is kept in: its own ([`Owned`]) or a lent one ([`Lent`]).
 pub struct Receiver<S: Store = Owned> {
-    window: face::Window,
+    window: Window,
     store: S,
 }
 
@@ -171,14 +172,14 @@ impl<S: Store> Receiver<S> {
     /// Whether a number is in the window and its packet present.
     pub fn has(&self, number: u16) -> bool {
         let position = number.wrapping_sub(self.window.base) as usize;
-        position < self.window.n && self.store.shown().marks[position] == 1
+        position < self.window.n && self.store.shown().marks.get(position) == Some(&1)
     }
 
     /// The numbers of the window whose packets are missing, in order.
     pub fn missing(&self) -> impl Iterator<Item = u16> + '_ {
         let base = self.window.base;
-        let marks = &self.store.shown().marks[..self.window.n];
-        marks.iter().enumerate().filter(|(_, mark)| **mark == 0).map(move |(i, _)| base.wrapping_add(i as u16))
+        let marks = self.store.shown().marks.iter().take(self.window.n);
+        marks.enumerate().filter(|(_, mark)| **mark == 0).map(move |(i, _)| base.wrapping_add(i as u16))
     }
 
     /// How many packets are present.
@@ -191,9 +192,15 @@ impl<S: Store> Receiver<S> {
         self.window.in_use
     }
 
-    /// The store, with the window value gone.
-    pub fn into_store(self) -> S {
-        self.store
+    /// The window value and the store, apart.
+    pub fn into_parts(self) -> (Window, S) {
+        (self.window, self.store)
+    }
+
+    /// A window value and a store put together again. The next call judges them: a value that was made up, a store that is
+    /// too short or that was changed meanwhile, meets its refusal (1 to 5).
+    pub fn from_parts(window: Window, store: S) -> Self {
+        Receiver { window, store }
     }
 
     fn offer(&mut self, call: face::Offer, datagram: &[u8]) -> Result<usize, Refusal> {

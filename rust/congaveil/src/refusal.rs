@@ -28,8 +28,23 @@ impl Refusal {
     const ALL: [Refusal; 17] = {
         use Refusal::*;
         [
-            BadProfile, BadPayloadSize, BadRoom, ShortBuffer, Disorder, ShortDatagram, BadRtpHeader, BadPayloadType, BadLength,
-            BadFecHeader, BadRecovery, BadShape, Outside, Repeat, Differs, Full, Missing,
+            BadProfile,
+            BadPayloadSize,
+            BadRoom,
+            ShortBuffer,
+            Disorder,
+            ShortDatagram,
+            BadRtpHeader,
+            BadPayloadType,
+            BadLength,
+            BadFecHeader,
+            BadRecovery,
+            BadShape,
+            Outside,
+            Repeat,
+            Differs,
+            Full,
+            Missing,
         ]
     };
 

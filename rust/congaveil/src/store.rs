@@ -46,7 +46,13 @@ impl Owned {
     /// As much as a window of this set-up needs, which is permitted: at most 400 × 1,428 and 128 × 1,428 bytes.
     pub(crate) fn of(set_up: &SetUp) -> Self {
         let SetUp { payload: p, positions: n, records: k, .. } = *set_up;
-        Owned { media: vec![0; n * p], timestamps: vec![0; n], marks: vec![0; n], parity: vec![0; k * p], records: vec![Record::default(); k] }
+        Owned {
+            media: vec![0; n * p],
+            timestamps: vec![0; n],
+            marks: vec![0; n],
+            parity: vec![0; k * p],
+            records: vec![Record::default(); k],
+        }
     }
 }
 
@@ -66,7 +72,13 @@ pub trait Store: sealed::Sealed {
 
 impl Store for Owned {
     fn lent(&mut self) -> Lent<'_> {
-        Lent { media: &mut self.media, timestamps: &mut self.timestamps, marks: &mut self.marks, parity: &mut self.parity, records: &mut self.records }
+        Lent {
+            media: &mut self.media,
+            timestamps: &mut self.timestamps,
+            marks: &mut self.marks,
+            parity: &mut self.parity,
+            records: &mut self.records,
+        }
     }
     fn shown(&self) -> Shown<'_> {
         Shown { media: &self.media, timestamps: &self.timestamps, marks: &self.marks, parity: &self.parity, records: &self.records }

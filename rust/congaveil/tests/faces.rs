@@ -1,0 +1,206 @@
+//! Every number of document 01 is reached through the safe face; a refusal changes nothing; nothing is touched past the need.
+use congaveil::{Lent, Outer, Receiver, Record, Refusal, SetUp, Window, MEDIA_HEADER, PARITY_HEADER};
+
+const P: usize = 188;
+const BASE: u16 = 65_530;
+const SET_UP: SetUp = SetUp { base: BASE, l: 4, d: 4, payload: P, positions: 16, records: 8, ssrc: 7 };
+
+fn stamp(number: u16) -> u32 {
+    3000 * u32::from(number) + 5
+}
+
+fn byte(number: u16, i: usize) -> u8 {
+    (usize::from(number) * 31 + i * 7 + usize::from(number >> 5)) as u8
+}
+
+fn rtp(kind: u8, number: u16, time: u32, ssrc: u32) -> Vec<u8> {
+    let mut g = vec![0x80, kind];
+    g.extend(number.to_be_bytes());
+    g.extend(time.to_be_bytes());
+    g.extend(ssrc.to_be_bytes());
+    g
+}
+
+fn media(number: u16, ssrc: u32) -> Vec<u8> {
+    let mut g = rtp(33, number, stamp(number), ssrc);
+    g.extend((0..P).map(|i| byte(number, i)));
+    g
+}
+
+fn parity(row: bool, start: u16) -> Vec<u8> {
+    let offset = if row { 1 } else { 4 };
+    let group: Vec<u16> = (0..4).map(|j| start.wrapping_add(j * offset)).collect();
+    let mut g = rtp(96, 1, 2, 3);
+    g.extend(start.to_be_bytes());
+    g.extend([0, 0, 0x80, 0, 0, 0]);
+    g.extend(group.iter().fold(0, |t, n| t ^ stamp(*n)).to_be_bytes());
+    g.extend([if row { 0x40 } else { 0 }, offset as u8, 4, 0]);
+    g.extend((0..P).map(|i| group.iter().fold(0, |b, n| b ^ byte(*n, i))));
+    g
+}
+
+fn with(mut g: Vec<u8>, at: usize, value: u8) -> Vec<u8> {
+    g[at] = value;
+    g
+}
+
+fn open(set_up: SetUp) -> Receiver {
+    Receiver::open(set_up).unwrap()
+}
+
+#[test]
+fn openings() {
+    let refused = |set_up| Receiver::open(set_up).err();
+    assert_eq!(refused(SetUp { l: 21, ..SET_UP }), Some(Refusal::BadProfile));
+    assert_eq!(refused(SetUp { l: usize::MAX, d: usize::MAX, ..SET_UP }), Some(Refusal::BadProfile));
+    assert_eq!(refused(SetUp { payload: 187, ..SET_UP }), Some(Refusal::BadPayloadSize));
+    assert_eq!(refused(SetUp { positions: 15, ..SET_UP }), Some(Refusal::BadRoom));
+    assert_eq!(refused(SetUp { positions: usize::MAX, records: usize::MAX, ..SET_UP }), Some(Refusal::BadRoom));
+    assert_eq!(refused(SET_UP), None);
+}
+
+#[test]
+fn media_offers() {
+    let mut r = open(SET_UP);
+    let good = media(BASE, 1);
+    assert_eq!(r.media(&good[..11]), Err(Refusal::ShortDatagram));
+    assert_eq!(r.media(&[]), Err(Refusal::ShortDatagram));
+    assert_eq!(r.media(&with(good.clone(), 0, 0x40)), Err(Refusal::BadRtpHeader));
+    assert_eq!(r.media(&with(good.clone(), 1, 96)), Err(Refusal::BadPayloadType));
+    assert_eq!(r.media(&good[..MEDIA_HEADER + P - 1]), Err(Refusal::BadLength));
+    assert_eq!(r.media(&media(BASE.wrapping_sub(1), 1)), Err(Refusal::Outside));
+    assert_eq!(r.present(), 0);
+    assert_eq!(r.media(&good), Ok(0));
+    assert_eq!(r.media(&good), Err(Refusal::Repeat));
+    assert_eq!(r.media(&with(good, 12, 0)), Err(Refusal::Differs));
+    assert_eq!(r.packet(BASE), Ok(media(BASE, 7)));
+    assert_eq!(r.packet(BASE.wrapping_add(1)), Err(Refusal::Missing));
+    assert_eq!(r.packet(BASE.wrapping_add(16)), Err(Refusal::Outside));
+    assert_eq!(r.read(BASE, &mut [0; MEDIA_HEADER + P - 1]), Err(Refusal::ShortBuffer));
+}
+
+#[test]
+fn parity_offers() {
+    let mut r = open(SetUp { records: 1, ..SET_UP });
+    let column = parity(false, BASE);
+    assert_eq!(r.column(&column[..PARITY_HEADER - 1]), Err(Refusal::ShortDatagram));
+    assert_eq!(r.column(&with(column.clone(), 16, 0)), Err(Refusal::BadFecHeader));
+    assert_eq!(r.column(&with(column.clone(), 16, 0x80 | 33)), Err(Refusal::BadRecovery));
+    assert_eq!(r.row(&column), Err(Refusal::BadShape));
+    assert_eq!(r.column(&parity(false, BASE.wrapping_add(4))), Err(Refusal::Outside));
+    assert_eq!(r.row(&parity(true, BASE)), Ok(0));
+    assert_eq!(r.in_hand(), 1);
+    assert_eq!(r.row(&parity(true, BASE)), Err(Refusal::Repeat));
+    assert_eq!(r.row(&with(parity(true, BASE), 20, 0xff)), Err(Refusal::Differs));
+    assert_eq!(r.column(&column), Err(Refusal::Full));
+}
+
+#[test]
+fn three_at_a_stroke() {
+    let mut r = open(SET_UP);
+    let at = |i: u16| BASE.wrapping_add(i);
+    for i in (0..16).filter(|i| ![0, 1, 4, 5].contains(i)) {
+        assert_eq!(r.media(&media(at(i), 1)), Ok(0));
+    }
+    for i in [0, 1] {
+        assert_eq!(r.column(&parity(false, at(i))), Ok(0));
+        assert_eq!(r.row(&parity(true, at(4 * i))), Ok(0));
+    }
+    assert_eq!(r.missing().collect::<Vec<_>>(), [at(0), at(1), at(4), at(5)]);
+    let mut out = [0xA5; PARITY_HEADER + P + 1];
+    assert_eq!(r.write_row(at(0), Outer::default(), &mut out), Err(Refusal::Missing));
+    assert_eq!(out, [0xA5; PARITY_HEADER + P + 1]);
+    assert_eq!(r.media(&media(at(5), 1)), Ok(3));
+    assert_eq!((r.present(), r.in_hand(), r.missing().count()), (16, 0, 0));
+    for i in 0..16 {
+        assert_eq!(r.packet(at(i)), Ok(media(at(i), 7)));
+    }
+    let outer = Outer { sequence: 1, timestamp: 2, ssrc: 3 };
+    assert_eq!(r.write_row(at(1), outer, &mut out), Ok(PARITY_HEADER + P));
+    assert_eq!((&out[..PARITY_HEADER + P], out[PARITY_HEADER + P]), (&parity(true, at(1))[..], 0xA5));
+    assert_eq!(r.write_column(at(2), outer, &mut out), Ok(PARITY_HEADER + P));
+    assert_eq!((&out[..PARITY_HEADER + P], out[PARITY_HEADER + P]), (&parity(false, at(2))[..], 0xA5));
+}
+
+/// A store of the card's own, longer than needed and full of old bytes, that is looked at between the calls.
+#[test]
+fn a_lent_store() {
+    let old = Record { stream: 9, snbase: 9, timestamp_recovery: 9, in_use: 9 };
+    let (mut media_part, mut timestamps, mut marks) = (vec![9; 16 * P + 3], [9; 17], [9; 18]);
+    let (mut parity_part, mut records) = (vec![9; 8 * P + 1], [old; 9]);
+    {
+        let lent = Lent {
+            media: &mut media_part,
+            timestamps: &mut timestamps,
+            marks: &mut marks,
+            parity: &mut parity_part,
+            records: &mut records,
+        };
+        let mut r = Receiver::open_in(SET_UP, lent).unwrap();
+        assert_eq!(r.row(&parity(true, BASE)), Ok(0));
+        assert_eq!(r.media(&media(BASE, 1)), Ok(0));
+    }
+    assert_eq!(
+        (&media_part[16 * P..], timestamps[16], &marks[16..], parity_part[8 * P], records[8]),
+        (&[9; 3][..], 9, &[9; 2][..], 9, old)
+    );
+    assert_eq!(records[0], Record { stream: 1, snbase: BASE, timestamp_recovery: records[0].timestamp_recovery, in_use: 1 });
+    let short = Lent {
+        media: &mut media_part,
+        timestamps: &mut timestamps,
+        marks: &mut marks,
+        parity: &mut parity_part,
+        records: &mut records[..7],
+    };
+    assert_eq!(Receiver::open_in(SET_UP, short).err(), Some(Refusal::ShortBuffer));
+}
+
+/// A store that was changed from outside, and a window value that was made up.
+#[test]
+fn parts() {
+    let mut marks = [0; 16];
+    let (mut media_part, mut timestamps) = (vec![0; 16 * P], [0; 16]);
+    let (mut parity_part, mut records) = (vec![0; 8 * P], [Record::default(); 8]);
+    let lent =
+        Lent { media: &mut media_part, timestamps: &mut timestamps, marks: &mut marks, parity: &mut parity_part, records: &mut records };
+    let (window, lent) = Receiver::open_in(SET_UP, lent).unwrap().into_parts();
+    lent.marks[3] = 2;
+    let mut r = Receiver::from_parts(window, lent);
+    assert_eq!(r.media(&media(BASE, 1)), Err(Refusal::Disorder));
+    let (_, lent) = r.into_parts();
+    lent.marks[3] = 0;
+    let mut r = Receiver::from_parts(Window::default(), lent);
+    assert_eq!(r.media(&media(BASE, 1)), Err(Refusal::BadProfile));
+    assert_eq!((r.has(BASE), r.missing().count()), (false, 0));
+    let (_, lent) = r.into_parts();
+    assert_eq!(Receiver::from_parts(window, lent).media(&media(BASE, 1)), Ok(0));
+}
+
+/// Each has its number and its words.
+#[test]
+fn words() {
+    use Refusal::*;
+    let all = [
+        BadProfile,
+        BadPayloadSize,
+        BadRoom,
+        ShortBuffer,
+        Disorder,
+        ShortDatagram,
+        BadRtpHeader,
+        BadPayloadType,
+        BadLength,
+        BadFecHeader,
+        BadRecovery,
+        BadShape,
+        Outside,
+        Repeat,
+        Differs,
+        Full,
+        Missing,
+    ];
+    for (i, refusal) in all.iter().enumerate() {
+        assert_eq!(refusal.number(), i as u32 + 1);
+        assert!(!refusal.to_string().is_empty());
+    }
+}
