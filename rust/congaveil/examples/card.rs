@@ -26,6 +26,14 @@ fn number_of(datagram: &[u8]) -> u16 {
     u16::from_be_bytes([datagram[2], datagram[3]])
 }
 
+fn print_numbers(what: &str, numbers: &[u16]) {
+    let words: Vec<String> = numbers.iter().map(u16::to_string).collect();
+    match words.len() {
+        0 => println!("{what}: none"),
+        count => println!("{what}: {} ({count})", words.join(" ")),
+    }
+}
+
 fn card(file: &str, l: &str, d: &str, payload: &str) -> Result<(), Box<dyn Error>> {
     let capture = fs::read(file)?;
     let base = entries(&capture).next().map(|(_, datagram)| number_of(datagram)).ok_or("an empty capture")?;
@@ -50,8 +58,8 @@ fn card(file: &str, l: &str, d: &str, payload: &str) -> Result<(), Box<dyn Error
     }
     println!("window from {base}, {} of 200 packets present, {rebuilt} rebuilt, {refused} datagrams refused", receiver.present());
     let (back, gone): (Vec<u16>, Vec<u16>) = dropped.iter().filter(|n| n.wrapping_sub(base) < 200).partition(|n| receiver.has(**n));
-    println!("rebuilt: {back:?} ({})", back.len());
-    println!("missing: {gone:?} ({})", gone.len());
+    print_numbers("rebuilt", &back);
+    print_numbers("missing", &gone);
     Ok(())
 }
 
