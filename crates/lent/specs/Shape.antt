@@ -4,11 +4,11 @@
 use mathlib.Core.Path.{_≡_, refl, _∙_}
 use mathlib.Core.Bool.{Bool, true, false, cond, _&&_}
 use mathlib.Core.Option.{Option, none, some}
-use mathlib.Core.List.{List, [], _∷_, _++_}
-use Prim.Native.Nat.{ℕ, zero, suc, _≤_, _+_}
+use mathlib.Core.List.{List, [], _∷_}
+use Prim.Native.Nat.{ℕ, zero, suc, _≤_}
 use native.Mathlib.Omega.{arith}
 use lib.Dec.{eqb}
-use lib.ListN.{length, set, replicate, drop, length-set, length-append, length-replicate, length-drop}
+use lib.ListN.{length, replicate, drop, length-set, length-append, length-replicate, length-drop}
 use Rattle.answer.specs.First.{first}
 use Rattle.rtp.specs.Fec.{snbase}
 use Rattle.peel.specs.Rest.{rounds}
@@ -17,9 +17,9 @@ use Rattle.window.specs.Store.{Store, zeroed}
 use Rattle.window.specs.Group.{group, missing}
 use Rattle.window.specs.Order.{inUse}
 use Rattle.settle.specs.State.{State, Recovery, rebuild, hold, release}
-use Rattle.settle.specs.Settle.{lack, next, releaseSpent, releaseBelow, releaseAll, rebuildBy, roundBy, round, settle}
+use Rattle.settle.specs.Settle.{lack, next, releaseBelow, releaseAll, rebuildBy, roundBy, round, settle}
 use Rattle.calls.specs.Accept.{acceptMedia, takeParity, acceptParity, recoveryOf}
-use Rattle.calls.specs.Call.{Outcome, start, settled, refused, mediaOfferTests, offeredMedia, parityOfferTests, offeredParity}
+use Rattle.calls.specs.Call.{start, settled, refused, mediaOfferTests, offeredMedia, parityOfferTests, offeredParity}
 use Rattle.guarantee.specs.Demand3.{Port, mediaPort, columnPort, rowPort, callOf}
 
 -- the room and the columns' lengths of one window value and store are those of another

@@ -4,19 +4,19 @@
 --     demand3-table    demand 3; demand3-table-same: two lists of the same packets
 use mathlib.Core.Path.{_≡_, refl, sym, ap, subst, _∙_}
 use mathlib.Core.Bool.{Bool, true, false, cond}
-use mathlib.Core.List.{List, [], _∷_, _++_, map, append-nil}
-use Prim.Native.Nat.{ℕ, zero, suc, min, _≤_, _<_}
+use mathlib.Core.List.{List, [], _∷_, _++_, map}
+use Prim.Native.Nat.{ℕ, zero, suc, min, _≤_}
 use native.Mathlib.Omega.{arith}
 use lib.Dec.{eqb}
-use lib.ListN.{length, getD, take, drop, length-map, length-take, length-append, drop-of-length-le}
-use lib.Seq.{take-suc, take-length, take-at, take-all}
-use borrow.Author.Tests.{eqb-true, eqb-false}
+use lib.ListN.{length, getD, take, drop, length-map, length-take}
+use lib.Seq.{take-suc, take-all}
+use borrow.Author.Tests.{eqb-true}
 use Rattle.answer.specs.declared.Answer.the-variants.{Done, Refused}
 use Rattle.answer.specs.Number.{numberOf}
 use Rattle.answer.specs.First.{first, first-none}
-use Rattle.sequence.specs.Lists.{upTo, map-append}
+use Rattle.sequence.specs.Lists.{upTo, length-upTo, map-append}
 use Rattle.window.specs.declared.Window.{Window}
-use Rattle.window.specs.Store.{Store, shortStore}
+use Rattle.window.specs.Store.{Store}
 use Rattle.window.specs.Bounds.{Sized, sizes-good}
 use Rattle.settle.specs.Scan.{stored}
 use Rattle.calls.specs.Call.{Outcome, noWindow, cleared, asked, openTests, opened}
@@ -41,10 +41,6 @@ all-entries xs n e = entries xs n (omega (arith, e)) ∙ take-all n xs (omega (a
 map-map : (f : Record → ℕ) (g : ℕ → Record) (l : List ℕ) → map f (map g l) ≡ map (λ i. f (g i)) l
 map-map f g [] = refl
 map-map f g (i ∷ l) = ap (λ (t : List ℕ). f (g i) ∷ t) (map-map f g l)
-
-length-upTo : (n : ℕ) → length (upTo n) ≡ n
-length-upTo zero = refl
-length-upTo (suc n) = omega (arith, length-append (upTo n) (n ∷ []), length-upTo n)
 
 -- the first q of a table whose first records are some others, as many as it had of q
 first-put : (q : ℕ) (rs ts : List Record) → length rs ≡ length (take q ts) → take q (rs ++ drop (length rs) ts) ≡ rs

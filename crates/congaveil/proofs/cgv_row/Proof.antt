@@ -1,6 +1,6 @@
--- `congaveil::cgv_row` meets its contract: a walk of its MIR, by hand. The table is lent as `&` to `load`, and comes back (`Lent.antt`). `row_rows` does the work, and `save` writes the table.
--- All that the proof knows of the three is that they meet their contracts. Each `&mut` is given up for good, to `row_rows` and to `save`. Written by walkgen.py.
--- Assumes nothing.
+-- `congaveil::cgv_row` meets its contract: a walk of its MIR, by hand. The table is lent as `&` to `load`, and comes back
+-- (Lent.antt); `row_rows` does the work, and `save` writes the table. Each `&mut` is given up for good, to `row_rows` and to `save`.
+-- Written by tools/walks. Assumes nothing.
 use mathlib.Core.Path.{_≡_, refl, ap}
 use mathlib.Core.List.{List, [], _∷_}
 use Prim.Native.Nat.{ℕ}
@@ -41,7 +41,7 @@ use denote.Triple.Clauses.{ensured, lasts}
 use denote.Triple.Table.{entered, cited}
 use denote.Triple.Walked.{says, Stays, stay-none, stay-none-slice, gave-slice, walkOf, Walks, ends-at, walked, goes-none, goes-none-slice, goes-gave-slice, walk-meets}
 use Rattle.records.specs.declared.Record.{Record}
-use Rattle.records.specs.Table.{loaded, saved}
+use Rattle.records.specs.Table.{reached, loaded, saved}
 use Rattle.records.proofs.Record as T
 use Rattle.records.proofs.load.Symbol as load-def
 use Rattle.records.proofs.load.Symbol.{name as #records·load}
@@ -49,6 +49,7 @@ use Rattle.records.proofs.load.Met as load-thm
 use Rattle.records.proofs.save.Symbol as save-def
 use Rattle.records.proofs.save.Symbol.{name as #records·save}
 use Rattle.records.proofs.save.Met as save-thm
+use Rattle.rtp.specs.Fec.{row}
 use Rattle.tabled.specs.declared.Finished.{Finished}
 use Rattle.tabled.proofs.Finished as Finished
 use Rattle.tabled.proofs.Finished.Laws as Finished′
@@ -58,8 +59,6 @@ use Rattle.tabled.proofs.Reply.Laws as Reply′
 use Rattle.window.specs.declared.Window.{Window}
 use Rattle.window.proofs.Window as Window
 use Rattle.window.proofs.Window.Laws as Window′
-use Rattle.records.specs.Table.{reached}
-use Rattle.rtp.specs.Fec.{row}
 use Rattle.calls.specs.Call.{offeredParity}
 use Rattle.tabled.specs.Table.{parityTable}
 use Rattle.tabled.specs.Work.{Worked}
@@ -156,7 +155,7 @@ module _ {M : Type 1} (𝓤 : URA M) (H : Heap 𝓤) (A : Atoms 𝓤) (W : Given
         calls-at ! (fmOf 𝓤 H (W .laws) 𝓣) (Work 𝓤 H A at-mem run) known-work (to-work rs w) (and-then ! (load ! (from ! (stop !)) (look ! 48 refl)) (and-then ! (load ! (from ! (stop !)) (look ! 46 refl)) (and-then ! (load ! (from ! (stop !)) (look ! 24 refl)) (and-then ! (load ! (from ! (stop !)) (look ! 20 refl)) (and-then ! (load ! (from ! (stop !)) (look ! 16 refl)) (and-then ! (load ! (from ! (stop !)) (look ! 12 refl)) (and-then ! (load ! (from ! (stop !)) (look ! 34 refl)) (and-then ! (load ! (from ! (stop !)) (look ! 10 refl)) (no-more !))))))))) (λ w′.
         use1 W (later (some (λ (r : Finished). ((‵ (flft κ₀ q₀) ⊛ (‵ (flft κ₁ q₁) ⊛ (‵ (flft κ₂ q₂) ⊛ (‵ (flft κ₃ q₃) ⊛ (‵ (flft κ₄ q₄) ⊛ (‵ ftrue)))))) ⊛ ‵ (Finished.the-row .own r (w′ ∷ []))) ⊛ raw (ensured 𝓤 H A rows-f.ended (rows-f.clauses 𝓤 H A at-mem run) (κ₀, (κ₁, (κ₂, (κ₃, (κ₄, tt))))) (x₁, (x₂, (x₃, (x₄, (x₅, (x₆, (rs, (length (x₇ .now), tt)))))))) tt r)))) (id⊢ 𝓤 _) $ await ! tt $ pick ! (λ r.
         split ! $ move ! (1 ∷ []) $ use1 W (some (λ (zs : Unit {0} × (Unit {0} × (List ℕ × (List ℕ × (List ℕ × (List ℕ × (Unit {0} × (Unit {0} × (Unit {0}))))))))). ‵ (lasts rows-f.ended (κ₀, (κ₁, (κ₂, (κ₃, (κ₄, tt))))) (x₁, (x₂, (x₃, (x₄, (x₅, (x₆, (rs, (length (x₇ .now), tt)))))))) zs) ⊛ raw (fact 𝓤 (Worked (reached (length (x₇ .now)) (x₁ .k)) (offeredParity row x₁ (x₂ .now)) (record { media = x₃ .now; timestamps = x₄ .now; marks = x₅ .now; parity = x₆ .now; records = rs }) (record { media = zs .1 .1 .0; timestamps = zs .1 .1 .1 .0; marks = zs .1 .1 .1 .1 .0; parity = zs .1 .1 .1 .1 .1 .0; records = r .rows }) r)))) (id⊢ 𝓤 _) $ pick ! (λ zs.
-        split ! $ move ! (1 ∷ []) $ heard ! (Worked (reached (length (x₇ .now)) (x₁ .k)) (offeredParity row x₁ (x₂ .now)) (record { media = x₃ .now; timestamps = x₄ .now; marks = x₅ .now; parity = x₆ .now; records = rs }) (record { media = zs .1 .1 .0; timestamps = zs .1 .1 .1 .0; marks = zs .1 .1 .1 .1 .0; parity = zs .1 .1 .1 .1 .1 .0; records = r .rows }) r) (λ e₂. fsplit ! $ drop ! $ move ! (0 ∷ []) $ fsplit ! $ drop ! $ move ! (0 ∷ []) $ fsplit ! $ fsplit ! $ move ! (1 ∷ []) $ feqL ! (λ l₃. move ! (1 ∷ []) $ fsplit ! $ fsplit ! $ move ! (1 ∷ []) $ feqL ! (λ l₄. move ! (1 ∷ []) $ fsplit ! $ fsplit ! $ move ! (1 ∷ []) $ feqL ! (λ l₅. move ! (1 ∷ []) $ fsplit ! $ fsplit ! $ move ! (1 ∷ []) $ feqL ! (λ l₆. move ! (1 ∷ []) $ drop ! $
+        split ! $ move ! (1 ∷ []) $ heard ! (Worked (reached (length (x₇ .now)) (x₁ .k)) (offeredParity row x₁ (x₂ .now)) (record { media = x₃ .now; timestamps = x₄ .now; marks = x₅ .now; parity = x₆ .now; records = rs }) (record { media = zs .1 .1 .0; timestamps = zs .1 .1 .1 .0; marks = zs .1 .1 .1 .1 .0; parity = zs .1 .1 .1 .1 .1 .0; records = r .rows }) r) (λ e₂. fsplit ! $ drop ! $ move ! (0 ∷ []) $ fsplit ! $ drop ! $ move ! (0 ∷ []) $ fsplit ! $ fsplit ! $ move ! (1 ∷ []) $ feqL ! (λ l₃. move ! (1 ∷ []) $ fsplit ! $ fsplit ! $ move ! (1 ∷ []) $ feqL ! (λ l₄. move ! (1 ∷ []) $ fsplit ! $ fsplit ! $ move ! (1 ∷ []) $ feqL ! (λ l₅. move ! (1 ∷ []) $ fsplit ! $ fsplit ! $ move ! (1 ∷ []) $ feqL ! (λ l₆. move ! (1 ∷ []) $ fsplit ! $ drop ! $ move ! (0 ∷ []) $ fsplit ! $ drop ! $ move ! (0 ∷ []) $ drop ! $
         move ! (4 ∷ []) $ split ! $ move ! (1 ∷ []) $ peeks ! Finished.the-row (Is Finished.the-row) (shows 𝓤 H A Finished.the-row) r (w′ ∷ []) (λ p₂. land ! (from ! (stop !)) (init ! 37 refl (LL.lawful Finished.the-type Finished′.the-laws 𝓤 H A W .typed r _ p₂ .0)) $ drop ! $ rewrite ! 36 (λ (u : Val). ‵ (fat fullShare Finished′.mir l₉ 0 u)) (ap only (LL.tells Finished.the-type Finished′.the-laws r _ p₂)) refl $
         -- `save`: the table is passed on for good
         assigns ! (addr ! (from ! (fld ! refl (hop ! (look-in ! 40 (sub ! 0 refl (whole !))) (stop !))))) (from ! (stop !)) (init ! 10 refl (tt, tt)) $ assigns ! (agg ! (and-then ! (load ! (from ! (stop !)) (look ! 10 refl)) (and-then ! (load ! (from ! (fld ! refl (stop !))) (look-in ! 40 (sub ! 1 refl (whole !)))) (no-more !)))) (from ! (stop !)) (init ! 8 refl (tt, (tt, (record { fits = g₇ .0 }, tt)))) $
