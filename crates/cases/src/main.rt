@@ -1,52 +1,252 @@
-// Bench cases over the leaves: groups of numbers, also across the wrap, and the header of case 9.
-use libc::STDOUT_FILENO;
+// Bench cases, refusals and traps over the public calls: a table of steps for each, run on a bench of its own.
+mod bench;
+mod script;
+mod show;
+mod wire;
 
-// The numbers of a group on a line.
-fn print_group(snbase: u16, offset: u8, na: u8) {
-    let mut j: u8 = 0;
-    while j < na {
-        io::print_decimal(STDOUT_FILENO, sequence::member_at(snbase, offset, j) as u64);
-        io::write_all(STDOUT_FILENO, b" ");
-        j += 1;
-    }
-    io::write_all(STDOUT_FILENO, b"\n");
+use answer::Answer;
+use bench::Bench;
+
+// A number that a byte holds, or 0.
+fn small(x: usize) -> u8 {
+    if x < 256 { x as u8 } else { 0 }
 }
 
-// Some bytes in hexadecimal on a line.
-fn print_bytes(bytes: &[u8], from: usize, to: usize) {
-    let mut i = from;
-    while i < to {
-        io::print_hex(STDOUT_FILENO, rtp::byte_at(bytes, i) as u64, 2);
-        io::write_all(STDOUT_FILENO, b" ");
+// The datagram of a step, by the window's L and D.
+fn made(b: Bench, kind: u64, number: u16, what: u64, value: u16) -> [u8; 228] {
+    let step = b.step;
+    let r = step.receiver;
+    let w = r.window;
+    let l = small(w.l);
+    if what == script::MEMBERS {
+        return wire::datagram(kind, number, l, rtp::low(value));
+    }
+    wire::altered(wire::datagram(kind, number, l, small(w.d)), what, value)
+}
+
+// The last answer is shown.
+fn answered(b: Bench) {
+    let step = b.step;
+    let a = step.answer;
+    show::answer(a);
+}
+
+// A datagram is offered, and the answer shown.
+fn offered(b: Bench, kind: u64, number: u16, what: u64, value: u16) -> Bench {
+    let g = made(b, kind, number, what, value);
+    let length = wire::length(kind, what, value);
+    let after = bench::offer(b, script::port_of(kind, what), &g[0..length]);
+    answered(after);
+    after
+}
+
+// What was written, against what the sender sends.
+fn compare(a: Answer, kind: u64, out: &[u8; 216], g: &[u8; 228]) {
+    if answer::number(a) != 0 {
+        return;
+    }
+    if xor::same_at(out, 0, g, 0, 216) {
+        show::text(b", as sent:");
+    } else {
+        show::text(b", not as sent:");
+    }
+    show::header(out, if kind == script::READ { 12 } else { 28 });
+}
+
+// A packet is read or parity written, and shown.
+fn written(b: Bench, kind: u64, number: u16, what: u64, value: u16) {
+    let g = made(b, kind, number, what, value);
+    let wrote = bench::write(b, kind, number, what, value);
+    let a = wrote.answer;
+    let out = wrote.out;
+    show::answer(a);
+    compare(a, kind, &out, &g);
+}
+
+// The marks are shown.
+fn shown(b: Bench) {
+    let marks = b.marks;
+    let uses = b.uses;
+    show::marks(&marks, &uses);
+}
+
+// A call is made, and its line shown.
+fn called(b: Bench, kind: u64, number: u16, what: u64, value: u16) -> Bench {
+    show::call(kind, number, what, value);
+    if kind <= script::ROW {
+        let after = offered(b, kind, number, what, value);
+        show::end();
+        return after;
+    }
+    written(b, kind, number, what, value);
+    show::end();
+    b
+}
+
+// A step is done, and its line shown.
+fn step(b: Bench, sum: u64) -> Bench {
+    let rest = sum % script::DONE;
+    let kind = sum - rest;
+    let what = rest - rest % script::DIFFERS;
+    let value = (rest % script::DIFFERS / script::IS) as u16;
+    let number = (rest % script::IS) as u16;
+    if kind <= script::WRITE_ROW {
+        return called(b, kind, number, what, value);
+    }
+    if kind == script::SHOW {
+        shown(b);
+        return b;
+    }
+    show::set(kind, number, value);
+    if kind < script::VALUE_L {
+        bench::poke(b, kind, number, value)
+    } else {
+        bench::make_up(b, kind, value)
+    }
+}
+
+// What is opened.
+fn show_set_up(l: usize, d: usize, p: usize, n: usize, k: usize) {
+    show::named(b"  open L ", l);
+    show::named(b", D ", d);
+    show::named(b", P ", p);
+    show::named(b", n ", n);
+    show::named(b", K ", k);
+}
+
+// The steps of a case, one after the other.
+fn run(bench: Bench, steps: &[u64]) {
+    let mut b = bench;
+    let mut i = 0;
+    while i < steps.len() {
+        let next = step(b, steps[i]);
+        b = next;
         i += 1;
     }
-    io::write_all(STDOUT_FILENO, b"\n");
+}
+
+// A case: a window is opened, and the steps are done.
+fn case(l: usize, d: usize, p: usize, n: usize, k: usize, steps: &[u64]) {
+    let b = bench::open(l, d, p, n, k);
+    show_set_up(l, d, p, n, k);
+    answered(b);
+    show::end();
+    run(b, steps);
+}
+
+// A case in a window of 4 by 4 with eight records.
+fn plain(title: &[u8], steps: &[u64]) {
+    show::text(title);
+    case(4, 4, 188, 16, 8, steps);
+}
+
+// Case 10, case 11 after it, and case 9 by the call that writes parity.
+fn case_10_11() {
+    plain(b"cases 10, 11 and 9\n", &script::CASE_10_11);
+}
+
+// An opening that is refused: it touches nothing, and its window value is refused.
+fn refused(l: usize, d: usize, p: usize, n: usize, k: usize) {
+    case(l, d, p, n, k, &script::AFTER_REFUSAL);
+}
+
+// Openings that are refused, and what their window values are worth.
+fn openings() {
+    show::text(b"openings refused\n");
+    refused(21, 4, 188, 16, 8);
+    refused(20, 6, 188, 16, 8);
+    refused(4611686018427387905, 4, 188, 16, 8);
+    refused(4, 4, 187, 16, 8);
+    refused(4, 4, 188, 15, 8);
+    refused(4, 4, 188, 401, 8);
+    refused(4, 4, 188, 16, 0);
+    refused(4, 4, 188, 16, 129);
+    refused(4, 4, 188, 17, 8);
+    refused(4, 4, 188, 16, 9);
+}
+
+// Groups of numbers, also across the wrap.
+fn groups() {
+    show::text(b"case 4: column at 65530, L 4, NA 4\n");
+    show::group(65530, 4, 4);
+    show::text(b"case 12: staggered columns of annex A, L 4, D 5, numbered from 1\n");
+    show::group(1, 4, 5);
+    show::group(6, 4, 5);
+    show::group(11, 4, 5);
+    show::group(16, 4, 5);
+}
+
+// Refusals 6 to 9 and 13 to 15 on the media port.
+fn media_refused() {
+    plain(b"media refused\n", &script::MEDIA_PORT);
+}
+
+// Refusals 6 to 15 on the parity ports.
+fn parity_refused() {
+    plain(b"parity refused\n", &script::PARITY_PORTS);
+}
+
+// Refusals 4, 13 and 17 of reading and writing.
+fn outputs_refused() {
+    plain(b"reading and writing refused\n", &script::OUTPUTS);
+}
+
+// Rows where there are none.
+fn no_rows() {
+    show::text(b"no rows where L is 3\n");
+    case(3, 4, 188, 16, 8, &script::NO_ROWS);
+}
+
+// Refusal 5.
+fn disorder() {
+    plain(b"a store out of order\n", &script::DISORDER);
+}
+
+// Window values that no call gave back.
+fn made_up() {
+    plain(b"a made-up window value\n", &script::MADE_UP);
+}
+
+// Refusal 16.
+fn one_record() {
+    show::text(b"room for one parity packet\n");
+    case(4, 4, 188, 16, 1, &script::ONE_RECORD);
+}
+
+// A column that a free record looks like.
+fn number_0() {
+    show::text(b"a column at number 0 beside free records\n");
+    case(1, 4, 188, 16, 8, &script::NUMBER_0);
+}
+
+// Order by position, with the truth first.
+fn true_first() {
+    plain(
+        b"the smaller position first: row 0 lies\n",
+        &script::TRUE_FIRST,
+    );
+}
+
+// Order by position, with the lie first.
+fn lie_first() {
+    plain(
+        b"the smaller position first: row 65534 lies\n",
+        &script::LIE_FIRST,
+    );
 }
 
 fn main() {
-    io::write_all(STDOUT_FILENO, b"case 4: column at 65530, L 4, NA 4\n");
-    print_group(65530, 4, 4);
-    io::write_all(
-        STDOUT_FILENO,
-        b"case 12: staggered columns of annex A, L 4, D 5, numbered from 1\n",
-    );
-    print_group(1, 4, 5);
-    print_group(6, 4, 5);
-    print_group(11, 4, 5);
-    print_group(16, 4, 5);
-    io::write_all(STDOUT_FILENO, b"case 9: RTP and parity header\n");
-    let mut out = [0u8; 28];
-    rtp::write_rtp(&mut out, rtp::PARITY_TYPE, 7, 0, 0);
-    rtp::write_fec(
-        &mut out,
-        65530,
-        0,
-        0,
-        1000 ^ 2000 ^ 3000 ^ 4000,
-        rtp::COLUMN,
-        4,
-        4,
-    );
-    print_bytes(&out, 0, 12);
-    print_bytes(&out, 12, 28);
+    groups();
+    case_10_11();
+    openings();
+    media_refused();
+    parity_refused();
+    outputs_refused();
+    no_rows();
+    disorder();
+    made_up();
+    one_record();
+    number_0();
+    true_first();
+    lie_first();
 }
