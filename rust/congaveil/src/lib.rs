@@ -66,6 +66,7 @@ pub struct Outer {
 }
 
 /// A window over consecutive packets, and the store that it is kept in: its own ([`Owned`]) or a lent one ([`Lent`]).
+#[derive(Clone, Debug)]
 pub struct Receiver<S: Store = Owned> {
     window: Window,
     store: S,

@@ -1,0 +1,164 @@
+//! How fast the library is, against yardsticks that are measured in the same run. Every figure is the median of many runs; the buffers are
+//! said beside each. Run it by tools/bench, on a machine that does nothing else.
+mod plain;
+mod traffic;
+
+use congaveil::{Outer, Receiver, Refusal, SetUp, PARITY_HEADER};
+use std::{hint::black_box, time::Instant};
+use traffic::{media, parity, Stretch};
+
+/// The median time of a thing, in nanoseconds; each run is made ready by another, which is not timed.
+fn median<T, R>(runs: usize, mut ready: impl FnMut() -> T, mut thing: impl FnMut(&mut T) -> R) -> f64 {
+    let mut times: Vec<f64> = (0..runs)
+        .map(|_| {
+            let mut with = ready();
+            let start = Instant::now();
+            black_box(thing(&mut with));
+            start.elapsed().as_nanos() as f64
+        })
+        .collect();
+    times.sort_by(f64::total_cmp);
+    times[runs / 2]
+}
+
+fn open(l: usize, d: usize, payload: usize, positions: usize, records: usize) -> Receiver {
+    Receiver::open(SetUp { base: 65_500, l, d, payload, positions, records, ssrc: 1 }).unwrap()
+}
+
+/// A receiver with every packet of its window but those of some positions.
+fn filled(l: usize, d: usize, payload: usize, positions: usize, records: usize, but: &dyn Fn(usize) -> bool) -> (Receiver, Stretch) {
+    let mut receiver = open(l, d, payload, positions, records);
+    let stretch = Stretch { base: 65_500, payload };
+    for i in (0..positions).filter(|i| !but(*i)) {
+        receiver.media(&media(&stretch, i)).unwrap();
+    }
+    (receiver, stretch)
+}
+
+/// All 20 parity packets of a 10 × 10 matrix, P = 1,316: 100 payloads one after the other, 20 outputs of 1,344 bytes.
+fn writing() {
+    const P: usize = 1316;
+    let (receiver, stretch) = filled(10, 10, P, 100, 40, &|_| false);
+    let payloads: Vec<u8> = (0..100).flat_map(|i| stretch.payload(i)).collect();
+    let mut out = vec![[0u8; PARITY_HEADER + P]; 20];
+    let number = |i: usize| 65_500u16.wrapping_add(i as u16);
+    let ours = median(
+        2001,
+        || (),
+        |_| {
+            for i in 0..10 {
+                receiver.write_column(number(i), Outer::default(), &mut out[i]).unwrap();
+                receiver.write_row(number(10 * i), Outer::default(), &mut out[10 + i]).unwrap();
+            }
+        },
+    );
+    let mut sums = vec![[0u8; P]; 20];
+    let run_time =
+        median(201, || (), |_| plain::parity_at_run_time(black_box(&payloads), black_box(10), black_box(10), black_box(P), &mut sums));
+    for i in 0..20 {
+        assert_eq!(sums[i], out[i][PARITY_HEADER..], "parity {i}");
+    }
+    let constants = median(2001, || (), |_| plain::parity_of_constants::<10, 10, P>(black_box(&payloads), &mut sums));
+    let isal = median(2001, || (), |_| plain::parity_by_isal(black_box(&payloads), 10, 10, P, &mut sums));
+    for i in 0..20 {
+        assert_eq!(sums[i], out[i][PARITY_HEADER..], "parity {i}");
+    }
+    println!("writing the 20 parity packets of a 10 x 10 matrix, P 1316, n 100, K 40, headers included");
+    println!("  ours                                        {ours:9.0} ns");
+    println!("  plain loops, L, D and P at run time         {run_time:9.0} ns   ours is {:.3} of it", ours / run_time);
+    println!("  plain loops, L, D and P constants           {constants:9.0} ns   ours is {:.2} of it", ours / constants);
+    println!("  ISA-L's xor_gen on the same payloads        {isal:9.0} ns   ours is {:.2} of it", ours / isal);
+}
+
+/// A media packet in good weather: every packet of the window in turn, none lost; the store and the datagrams are the working set.
+fn good_weather(positions: usize, records: usize, p: usize) -> (f64, f64) {
+    let stretch = Stretch { base: 65_500, payload: p };
+    let datagrams: Vec<Vec<u8>> = (0..positions).map(|i| media(&stretch, i)).collect();
+    let each = median(
+        501,
+        || open(10, 10, p, positions, records),
+        |r| {
+            for g in &datagrams {
+                r.media(g).unwrap();
+            }
+        },
+    ) / positions as f64;
+    let mut store = vec![0u8; positions * p];
+    let copy = median(
+        501,
+        || (),
+        |_| {
+            for (g, to) in datagrams.iter().zip(store.chunks_exact_mut(p)) {
+                to.copy_from_slice(&black_box(g)[12..]);
+            }
+        },
+    ) / positions as f64;
+    (each, copy)
+}
+
+/// A packet that rebuilds one other: the parity of a row of NA = L packets waits for two.
+fn rebuilds_one(na: usize, p: usize) -> f64 {
+    let (mut waiting, stretch) = filled(na, 5, p, 100, 40, &|i| i < 2);
+    assert_eq!(waiting.row(&parity(&stretch, na, 5, true, 0)), Ok(0));
+    let late = media(&stretch, 0);
+    median(1001, || waiting.clone(), |r| assert_eq!(r.media(&late), Ok(1)))
+}
+
+/// A late packet that sets off `chain` rebuilds: every third packet is lost, and a row of four waits for each two neighbours.
+fn rebuilds_many(chain: usize, n: usize, k: usize, p: usize) -> f64 {
+    let (mut waiting, stretch) = filled(4, 4, p, n, k, &|i| i % 3 == 0 && i <= 3 * chain);
+    for i in 0..chain {
+        assert_eq!(waiting.row(&parity(&stretch, 4, 4, true, 3 * i)), Ok(0));
+    }
+    let late = media(&stretch, 0);
+    median(301, || waiting.clone(), |r| assert_eq!(r.media(&late), Ok(chain)))
+}
+
+/// A parity packet that is held: two of its group are missing.
+fn holds(k: usize, p: usize) -> f64 {
+    let (waiting, stretch) = filled(10, 10, p, 200, k, &|i| i < 2);
+    let row = parity(&stretch, 10, 10, true, 0);
+    median(1001, || waiting.clone(), |r| assert_eq!(r.row(&row), Ok(0)))
+}
+
+/// A datagram that is refused by its length, after the store was found in order.
+fn refuses(n: usize, k: usize) -> f64 {
+    let (mut receiver, _) = filled(10, 10, 188, n, k, &|_| false);
+    let short = [0u8; 11];
+    median(
+        1001,
+        || (),
+        |_| {
+            for _ in 0..100 {
+                assert_eq!(receiver.media(&short), Err(Refusal::ShortDatagram));
+            }
+        },
+    ) / 100.0
+}
+
+fn main() {
+    writing();
+    println!("\na media packet in good weather, each packet of the window in turn, L 10, D 10");
+    for (n, k, p) in [(200, 40, 1316), (100, 40, 1316), (400, 40, 1316), (200, 10, 1316), (200, 128, 1316), (200, 40, 188), (200, 40, 752)]
+    {
+        let (each, copy) = good_weather(n, k, p);
+        println!("  n {n:3}, K {k:3}, P {p:4}   {each:7.0} ns   memcpy of the payloads {copy:5.0} ns   {:.1} times", each / copy);
+    }
+    println!("\na media packet that rebuilds one other, n 100, K 40");
+    for (na, p) in [(5, 1316), (10, 1316), (20, 1316), (10, 188)] {
+        println!("  NA {na:2}, P {p:4}          {:7.0} ns", rebuilds_one(na, p));
+    }
+    println!("\na late media packet that sets off a chain of rebuilds, n 400, K 128, NA 4");
+    for (chain, p) in [(10, 1316), (100, 1316), (100, 188)] {
+        let all = rebuilds_many(chain, 400, 128, p);
+        println!("  {chain:3} rebuilt, P {p:4}    {all:7.0} ns   {:.0} ns each", all / chain as f64);
+    }
+    println!("\na row parity packet that is held, n 200, P 1316");
+    for k in [10, 40, 128] {
+        println!("  K {k:3}                 {:7.0} ns", holds(k, 1316));
+    }
+    println!("\na refusal by length, after the test of order");
+    for (n, k) in [(200, 40), (400, 40), (200, 128)] {
+        println!("  n {n:3}, K {k:3}          {:7.0} ns", refuses(n, k));
+    }
+}
