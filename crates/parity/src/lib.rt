@@ -47,8 +47,8 @@ pub fn xor_timestamps(timestamps: &[u32], rows: &[usize], n: usize, with: u32) -
     sum
 }
 
-// The payloads of as many of the first n rows as make up fours, xored into sum from at; how many rows those are.
-pub fn xor_fours(
+// The payloads of the first rows, ten at a pass; how many rows that were.
+pub fn xor_tens(
     sum: &mut [u8],
     at: usize,
     media: &[u8],
@@ -60,6 +60,37 @@ pub fn xor_fours(
     ensures { λ r. ⌜ (r ≤ n) × (now (sum .exit) ≡ xorParts (now (media .entry)) (places p (take r (now (rows .entry)))) at p (now (sum .entry))) ⌝ }
 {
     let mut i = 0;
+    while 10 <= n - i {
+        let a = rows[i] * p;
+        let b = rows[i + 1] * p;
+        let c = rows[i + 2] * p;
+        let d = rows[i + 3] * p;
+        let e = rows[i + 4] * p;
+        let f = rows[i + 5] * p;
+        let g = rows[i + 6] * p;
+        let h = rows[i + 7] * p;
+        let j = rows[i + 8] * p;
+        let k = rows[i + 9] * p;
+        xor::xor10_at(sum, at, media, a, b, c, d, e, f, g, h, j, k, p);
+        i += 10;
+    }
+    i
+}
+
+// The payloads of as many of the first n rows as make up fours, xored into sum from at; how many rows those are.
+pub fn xor_fours(
+    sum: &mut [u8],
+    at: usize,
+    media: &[u8],
+    rows: &[usize],
+    from: usize,
+    n: usize,
+    p: usize,
+) -> usize
+    requires { ⌜ (at + p ≤ length (now sum)) × (from ≤ n) × Rows (now rows) n p (length (now media)) ⌝ }
+    ensures { λ r. ⌜ (from ≤ r) × (r ≤ n) × (now (sum .exit) ≡ xorParts (now (media .entry)) (places p (drop from (take r (now (rows .entry))))) at p (now (sum .entry))) ⌝ }
+{
+    let mut i = from;
     while 4 <= n - i {
         let a = rows[i];
         let b = rows[i + 1];
@@ -97,6 +128,7 @@ pub fn xor_rows(sum: &mut [u8], at: usize, media: &[u8], rows: &[usize], n: usiz
     requires { ⌜ (at + p ≤ length (now sum)) × Rows (now rows) n p (length (now media)) ⌝ }
     ensures { λ _. ⌜ now (sum .exit) ≡ xorParts (now (media .entry)) (places p (take n (now (rows .entry)))) at p (now (sum .entry)) ⌝ }
 {
-    let done = xor_fours(sum, at, media, rows, n, p);
-    xor_rest(sum, at, media, rows, done, n, p);
+    let tens = xor_tens(sum, at, media, rows, n, p);
+    let fours = xor_fours(sum, at, media, rows, tens, n, p);
+    xor_rest(sum, at, media, rows, fours, n, p);
 }

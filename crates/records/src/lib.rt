@@ -35,17 +35,22 @@ pub fn full(len: usize) -> usize
     reach(len, 128)
 }
 
+// A free record.
+pub const BLANK: Record = Record {
+    stream: 0,
+    snbase: 0,
+    timestamp_recovery: 0,
+    in_use: 0,
+};
+
+// 128 free records.
+pub const BLANKS: [Record; 128] = [BLANK; 128];
+
 // 128 records of zeros.
 pub fn blanks() -> [Record; 128]
     ensures { λ r. ⌜ r ≡ blankRows ⌝ }
 {
-    let b = Record {
-        stream: 0,
-        snbase: 0,
-        timestamp_recovery: 0,
-        in_use: 0,
-    };
-    [b; 128]
+    BLANKS
 }
 
 // The first 128 entries of the table, and zeros after them.

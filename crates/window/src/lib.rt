@@ -136,18 +136,18 @@ fn good_marks(marks: &[u8], n: usize) -> bool
     good
 }
 
-// How many of the first n marks are 1.
+// How many of the first n marks are 1: a sum in 16 bits, so that it is made of eight marks at once.
 pub fn count_ones(marks: &[u8], n: usize) -> usize
-    requires { ⌜ n ≤ length (now marks) ⌝ }
+    requires { ⌜ (n ≤ length (now marks)) × (n ≤ 400) ⌝ }
     ensures { λ r. ⌜ r ≡ count (λ i. eqb (getD (now (marks .entry)) i 0) 1) (upTo n) ⌝ }
 {
-    let mut ones: usize = 0;
+    let mut ones: u16 = 0;
     let mut i = 0;
     while i < n {
-        ones += (marks[i] == 1) as usize;
+        ones += (marks[i] == 1) as u16;
         i += 1;
     }
-    ones
+    ones as usize
 }
 
 // How many marks are 0 at `at` and at the na - 1 places that follow it in steps of `offset`.

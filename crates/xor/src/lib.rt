@@ -1,9 +1,10 @@
 // Copies, clears, xors and compares parts of byte slices. A part is named by the whole slice, where it begins and how long it is.
 ghost use mathlib.Core.Path.{_≡_};
+ghost use mathlib.Core.List.{[], _∷_};
 ghost use Prim.Native.Nat.{_+_, _≤_};
 ghost use lib.ListN.{length, take, drop, replicate};
 ghost use lib.Seq.{paste};
-ghost use Rattle.xor.specs.Xor.{xorAt};
+ghost use Rattle.xor.specs.Xor.{xorAt, xorParts};
 ghost use Rattle.xor.specs.Same.{same};
 
 // Copies n bytes of src from `from` into dst from `at`.
@@ -60,6 +61,34 @@ pub fn xor4_at(
     let mut i = 0;
     while i < n {
         dst[at + i] = dst[at + i] ^ src[a + i] ^ src[b + i] ^ src[c + i] ^ src[d + i];
+        i += 1;
+    }
+}
+
+// Ten parts of src, n bytes from each of ten places, xored into dst from at, in one pass.
+pub fn xor10_at(
+    dst: &mut [u8],
+    at: usize,
+    src: &[u8],
+    a: usize,
+    b: usize,
+    c: usize,
+    d: usize,
+    e: usize,
+    f: usize,
+    g: usize,
+    h: usize,
+    j: usize,
+    k: usize,
+    n: usize,
+)
+    requires { ⌜ (at + n ≤ length (now dst)) × (a + n ≤ length (now src)) × (b + n ≤ length (now src)) × (c + n ≤ length (now src)) × (d + n ≤ length (now src)) × (e + n ≤ length (now src)) × (f + n ≤ length (now src)) × (g + n ≤ length (now src)) × (h + n ≤ length (now src)) × (j + n ≤ length (now src)) × (k + n ≤ length (now src)) ⌝ }
+    ensures { λ _. ⌜ now (dst .exit) ≡ xorParts (now (src .entry)) (a ∷ b ∷ c ∷ d ∷ e ∷ f ∷ g ∷ h ∷ j ∷ k ∷ []) at n (now (dst .entry)) ⌝ }
+{
+    let mut i = 0;
+    while i < n {
+        let five = dst[at + i] ^ src[a + i] ^ src[b + i] ^ src[c + i] ^ src[d + i] ^ src[e + i];
+        dst[at + i] = five ^ src[f + i] ^ src[g + i] ^ src[h + i] ^ src[j + i] ^ src[k + i];
         i += 1;
     }
 }

@@ -1,23 +1,23 @@
--- `parity::xor_fours` meets its contract: after i rows, by fours, the sum has the first i rows xored in. Assumes nothing.
-use mathlib.Core.Path.{_≡_, refl, sym, ap, _∙_}
-use Prim.Native.Nat.{ℕ, _≤_, _<_, _-_, _+_, _*_}
+-- `parity::xor_fours` meets its contract. Assumes nothing.
+use mathlib.Core.Path.{_≡_, refl}
+use Prim.Native.Nat.{_≤_, _-_, _+_}
 use native.Mathlib.Omega.{arith}
-use lib.ListN.{length, getD, take}
 use borrow.Author.Needs.{needs}
 use Rattle.xor.specs.Xor.{xorParts}
-use Rattle.parity.specs.Rows.{places, Rows}
-use Rattle.parity.proofs.Turns.{four-rows}
+use Rattle.parity.specs.Rows.{places}
+use lib.ListN.{length, take, drop}
+use Rattle.parity.proofs.Turns.{none-yet, four-rows}
 use Rattle.parity.proofs.xor_fours.Statement.{statement}
 use Rattle.parity.proofs.xor_fours.Tie as tie
 
 abbrev Inv-loop : tie.InvT-loop
-Inv-loop sum₀ at media rows n p i₀ sum i = (i ≤ n) × (sum ≡ xorParts media (places p (take i rows)) at p sum₀) × (length sum ≡ length sum₀)
+Inv-loop sum₀ at media rows from n p i₀ sum i = (from ≤ i) × (i ≤ n) × (sum ≡ xorParts media (places p (drop from (take i rows))) at p sum₀) × (length sum ≡ length sum₀)
 
 abbrev μ-loop : tie.MeasureT-loop
-μ-loop sum₀ at media rows n p i₀ sum i = n - i
+μ-loop sum₀ at media rows from n p i₀ sum i = n - i
 
 loop-holds : tie.Need-loop-holds Inv-loop μ-loop
-loop-holds c = search needs
+loop-holds c = (omega arith, omega arith, none-yet (c .before .before .before .args .media .now) (c .before .before .before .args .rows .now) (c .before .before .before .args .at) (c .before .before .before .args .p) (c .before .before .before .args .sum .now) (c .before .before .before .args .from), refl)
 
 sub-loop : tie.Need-sub-loop Inv-loop μ-loop
 sub-loop c = search needs
@@ -56,19 +56,19 @@ shared-slice-read-d : tie.Need-shared-slice-read-d Inv-loop μ-loop
 shared-slice-read-d c = search needs
 
 mul-xor4-at : tie.Need-mul-xor4-at Inv-loop μ-loop
-mul-xor4-at c = omega (arith, c .before .before .before .before .before .before .before .before .before .before .pre .1 .ends (c .before .before .before .before .before .before .loop .i) (omega arith))
+mul-xor4-at c = omega (arith, c .before .before .before .before .before .before .before .before .before .before .pre .2 .ends (c .before .before .before .before .before .before .loop .i) (omega arith))
 
 mul-xor4-at-2 : tie.Need-mul-xor4-at-2 Inv-loop μ-loop
-mul-xor4-at-2 c = omega (arith, c .before .before .before .before .before .before .before .before .before .before .pre .1 .ends (c .before .before .before .before .before .before .loop .i + 1) (omega arith))
+mul-xor4-at-2 c = omega (arith, c .before .before .before .before .before .before .before .before .before .before .pre .2 .ends (c .before .before .before .before .before .before .loop .i + 1) (omega arith))
 
 mul-xor4-at-3 : tie.Need-mul-xor4-at-3 Inv-loop μ-loop
-mul-xor4-at-3 c = omega (arith, c .before .before .before .before .before .before .before .before .before .before .pre .1 .ends (c .before .before .before .before .before .before .loop .i + 2) (omega arith))
+mul-xor4-at-3 c = omega (arith, c .before .before .before .before .before .before .before .before .before .before .pre .2 .ends (c .before .before .before .before .before .before .loop .i + 2) (omega arith))
 
 mul-xor4-at-4 : tie.Need-mul-xor4-at-4 Inv-loop μ-loop
-mul-xor4-at-4 c = omega (arith, c .before .before .before .before .before .before .before .before .before .before .pre .1 .ends (c .before .before .before .before .before .before .loop .i + 3) (omega arith))
+mul-xor4-at-4 c = omega (arith, c .before .before .before .before .before .before .before .before .before .before .pre .2 .ends (c .before .before .before .before .before .before .loop .i + 3) (omega arith))
 
 xor4-at-requires : tie.Need-xor4-at-requires Inv-loop μ-loop
-xor4-at-requires c κs = (omega arith, c .before .before .before .before .before .before .before .before .before .before .pre .1 .ends (c .before .before .before .before .before .before .loop .i) (omega arith), c .before .before .before .before .before .before .before .before .before .before .pre .1 .ends (c .before .before .before .before .before .before .loop .i + 1) (omega arith), c .before .before .before .before .before .before .before .before .before .before .pre .1 .ends (c .before .before .before .before .before .before .loop .i + 2) (omega arith), c .before .before .before .before .before .before .before .before .before .before .pre .1 .ends (c .before .before .before .before .before .before .loop .i + 3) (omega arith))
+xor4-at-requires c κs = (omega (arith, c .before .before .before .before .before .before .before .before .before .before .pre .0, c .before .before .before .before .before .before .loop .inv .3), c .before .before .before .before .before .before .before .before .before .before .pre .2 .ends (c .before .before .before .before .before .before .loop .i) (omega arith), c .before .before .before .before .before .before .before .before .before .before .pre .2 .ends (c .before .before .before .before .before .before .loop .i + 1) (omega arith), c .before .before .before .before .before .before .before .before .before .before .pre .2 .ends (c .before .before .before .before .before .before .loop .i + 2) (omega arith), c .before .before .before .before .before .before .before .before .before .before .pre .2 .ends (c .before .before .before .before .before .before .loop .i + 3) (omega arith))
 
 add-i : tie.Need-add-i Inv-loop μ-loop
 add-i c = search needs
@@ -79,7 +79,8 @@ loop-less c = search needs
 loop-again : tie.Need-loop-again Inv-loop μ-loop
 loop-again c = (
   omega arith,
-  rw (c .before .before .xor4-at .ensures, c .before .before .before .before .before .before .before .before .before .loop .inv .1) (four-rows (c .before .before .before .before .before .before .before .before .before .before .before .before .before .args .media .now) (c .before .before .before .before .before .before .before .before .before .before .before .before .before .args .rows .now) (c .before .before .before .before .before .before .before .before .before .before .before .before .before .args .at) (c .before .before .before .before .before .before .before .before .before .before .before .before .before .args .p) (c .before .before .before .before .before .before .before .before .before .before .before .before .before .args .sum .now) (c .before .before .before .before .before .before .before .before .before .loop .i) (omega (arith, c .before .before .before .before .before .before .before .before .before .before .before .before .before .pre .1 .long))),
+  omega arith,
+  rw (c .before .before .xor4-at .ensures, c .before .before .before .before .before .before .before .before .before .loop .inv .2) (four-rows (c .before .before .before .before .before .before .before .before .before .before .before .before .before .args .media .now) (c .before .before .before .before .before .before .before .before .before .before .before .before .before .args .rows .now) (c .before .before .before .before .before .before .before .before .before .before .before .before .before .args .at) (c .before .before .before .before .before .before .before .before .before .before .before .before .before .args .p) (c .before .before .before .before .before .before .before .before .before .before .before .before .before .args .sum .now) (c .before .before .before .before .before .before .before .before .before .before .before .before .before .args .from) (c .before .before .before .before .before .before .before .before .before .loop .i) (omega arith) (omega (arith, c .before .before .before .before .before .before .before .before .before .before .before .before .before .pre .2 .long))),
   omega (arith, c .before .before .xor4-at .kept),
 )
 
@@ -87,7 +88,7 @@ same-length : tie.Need-same-length Inv-loop μ-loop
 same-length c = search needs
 
 returns : tie.Need-returns Inv-loop μ-loop
-returns c = (omega arith, c .before .loop .inv .1)
+returns c = (c .before .loop .inv .0, omega arith, c .before .loop .inv .2)
 
 pub xor-fours-spec : {M : Type 1} → statement M
 xor-fours-spec =

@@ -1,11 +1,11 @@
 -- `parity::xor_rest` meets its contract: one row a turn. Assumes nothing.
-use mathlib.Core.Path.{_≡_, refl, sym, ap, _∙_}
-use Prim.Native.Nat.{ℕ, _≤_, _<_, _-_, _+_, _*_}
+use mathlib.Core.Path.{_≡_, refl, _∙_}
+use Prim.Native.Nat.{_≤_, _-_}
 use native.Mathlib.Omega.{arith}
-use lib.ListN.{length, getD, take, drop, length-take, drop-of-length-le}
+use lib.ListN.{length, take, drop, length-take, drop-of-length-le}
 use borrow.Author.Needs.{needs}
 use Rattle.xor.specs.Xor.{xorParts}
-use Rattle.parity.specs.Rows.{places, Rows}
+use Rattle.parity.specs.Rows.{places}
 use Rattle.parity.proofs.Turns.{rest-row}
 use Rattle.parity.proofs.xor_rest.Statement.{statement}
 use Rattle.parity.proofs.xor_rest.Tie as tie

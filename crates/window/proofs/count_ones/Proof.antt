@@ -46,6 +46,9 @@ loop-again c =
     let f = flag-le (one-at (a .marks .now) (l .i)) in
     (omega arith, turn-count (one-at (a .marks .now)) (l .i) (l .ones) (l .inv .1), omega arith)
 
+cast-result : tie.Need-cast-result Inv-loop μ-loop
+cast-result c = record { fits = omega arith }
+
 returns : tie.Need-returns Inv-loop μ-loop
 returns c = let e : c .before .loop .i ≡ c .before .before .args .n = omega arith in c .before .loop .inv .1 ∙ rw e
 
@@ -62,4 +65,5 @@ count-ones-spec =
     add-i
     loop-less
     loop-again
+    cast-result
     returns)

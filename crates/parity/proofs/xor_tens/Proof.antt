@@ -1,0 +1,216 @@
+-- `parity::xor_tens` meets its contract. Assumes nothing.
+use mathlib.Core.Path.{_≡_}
+use Prim.Native.Nat.{_≤_, _-_, _+_}
+use native.Mathlib.Omega.{arith}
+use borrow.Author.Needs.{needs}
+use Rattle.xor.specs.Xor.{xorParts}
+use Rattle.parity.specs.Rows.{places}
+use lib.ListN.{length, take}
+use Rattle.parity.proofs.Turns.{ten-rows}
+use Rattle.parity.proofs.xor_tens.Statement.{statement}
+use Rattle.parity.proofs.xor_tens.Tie as tie
+
+abbrev Inv-loop : tie.InvT-loop
+Inv-loop sum₀ at media rows n p i₀ sum i = (i ≤ n) × (sum ≡ xorParts media (places p (take i rows)) at p sum₀) × (length sum ≡ length sum₀)
+
+abbrev μ-loop : tie.MeasureT-loop
+μ-loop sum₀ at media rows n p i₀ sum i = n - i
+
+loop-holds : tie.Need-loop-holds Inv-loop μ-loop
+loop-holds c = search needs
+
+sub-loop : tie.Need-sub-loop Inv-loop μ-loop
+sub-loop c = search needs
+
+mul-a : tie.Need-mul-a Inv-loop μ-loop
+mul-a c = search needs
+
+shared-slice-read-a : tie.Need-shared-slice-read-a Inv-loop μ-loop
+shared-slice-read-a c = search needs
+
+mul-a-2 : tie.Need-mul-a-2 Inv-loop μ-loop
+mul-a-2 c = omega (arith, c .before .before .before .before .before .before .pre .1 .ends (c .before .before .loop .i) (omega arith))
+
+add-b : tie.Need-add-b Inv-loop μ-loop
+add-b c = search needs
+
+mul-b : tie.Need-mul-b Inv-loop μ-loop
+mul-b c = search needs
+
+shared-slice-read-b : tie.Need-shared-slice-read-b Inv-loop μ-loop
+shared-slice-read-b c = search needs
+
+mul-b-2 : tie.Need-mul-b-2 Inv-loop μ-loop
+mul-b-2 c = omega (arith, c .before .before .before .before .before .before .before .pre .1 .ends (c .before .before .before .loop .i + 1) (omega arith))
+
+add-c : tie.Need-add-c Inv-loop μ-loop
+add-c c = search needs
+
+mul-c : tie.Need-mul-c Inv-loop μ-loop
+mul-c c = search needs
+
+shared-slice-read-c : tie.Need-shared-slice-read-c Inv-loop μ-loop
+shared-slice-read-c c = search needs
+
+mul-c-2 : tie.Need-mul-c-2 Inv-loop μ-loop
+mul-c-2 c = omega (arith, c .before .before .before .before .before .before .before .before .pre .1 .ends (c .before .before .before .before .loop .i + 2) (omega arith))
+
+add-d : tie.Need-add-d Inv-loop μ-loop
+add-d c = search needs
+
+mul-d : tie.Need-mul-d Inv-loop μ-loop
+mul-d c = search needs
+
+shared-slice-read-d : tie.Need-shared-slice-read-d Inv-loop μ-loop
+shared-slice-read-d c = search needs
+
+mul-d-2 : tie.Need-mul-d-2 Inv-loop μ-loop
+mul-d-2 c = omega (arith, c .before .before .before .before .before .before .before .before .before .pre .1 .ends (c .before .before .before .before .before .loop .i + 3) (omega arith))
+
+add-e : tie.Need-add-e Inv-loop μ-loop
+add-e c = search needs
+
+mul-e : tie.Need-mul-e Inv-loop μ-loop
+mul-e c = search needs
+
+shared-slice-read-e : tie.Need-shared-slice-read-e Inv-loop μ-loop
+shared-slice-read-e c = search needs
+
+mul-e-2 : tie.Need-mul-e-2 Inv-loop μ-loop
+mul-e-2 c = omega (arith, c .before .before .before .before .before .before .before .before .before .before .pre .1 .ends (c .before .before .before .before .before .before .loop .i + 4) (omega arith))
+
+add-f : tie.Need-add-f Inv-loop μ-loop
+add-f c = search needs
+
+mul-f : tie.Need-mul-f Inv-loop μ-loop
+mul-f c = search needs
+
+shared-slice-read-f : tie.Need-shared-slice-read-f Inv-loop μ-loop
+shared-slice-read-f c = search needs
+
+mul-f-2 : tie.Need-mul-f-2 Inv-loop μ-loop
+mul-f-2 c = omega (arith, c .before .before .before .before .before .before .before .before .before .before .before .pre .1 .ends (c .before .before .before .before .before .before .before .loop .i + 5) (omega arith))
+
+add-g : tie.Need-add-g Inv-loop μ-loop
+add-g c = search needs
+
+mul-g : tie.Need-mul-g Inv-loop μ-loop
+mul-g c = search needs
+
+shared-slice-read-g : tie.Need-shared-slice-read-g Inv-loop μ-loop
+shared-slice-read-g c = search needs
+
+mul-g-2 : tie.Need-mul-g-2 Inv-loop μ-loop
+mul-g-2 c = omega (arith, c .before .before .before .before .before .before .before .before .before .before .before .before .pre .1 .ends (c .before .before .before .before .before .before .before .before .loop .i + 6) (omega arith))
+
+add-h : tie.Need-add-h Inv-loop μ-loop
+add-h c = search needs
+
+mul-h : tie.Need-mul-h Inv-loop μ-loop
+mul-h c = search needs
+
+shared-slice-read-h : tie.Need-shared-slice-read-h Inv-loop μ-loop
+shared-slice-read-h c = search needs
+
+mul-h-2 : tie.Need-mul-h-2 Inv-loop μ-loop
+mul-h-2 c = omega (arith, c .before .before .before .before .before .before .before .before .before .before .before .before .before .pre .1 .ends (c .before .before .before .before .before .before .before .before .before .loop .i + 7) (omega arith))
+
+add-j : tie.Need-add-j Inv-loop μ-loop
+add-j c = search needs
+
+mul-j : tie.Need-mul-j Inv-loop μ-loop
+mul-j c = search needs
+
+shared-slice-read-j : tie.Need-shared-slice-read-j Inv-loop μ-loop
+shared-slice-read-j c = search needs
+
+mul-j-2 : tie.Need-mul-j-2 Inv-loop μ-loop
+mul-j-2 c = omega (arith, c .before .before .before .before .before .before .before .before .before .before .before .before .before .before .pre .1 .ends (c .before .before .before .before .before .before .before .before .before .before .loop .i + 8) (omega arith))
+
+add-k : tie.Need-add-k Inv-loop μ-loop
+add-k c = search needs
+
+mul-k : tie.Need-mul-k Inv-loop μ-loop
+mul-k c = search needs
+
+shared-slice-read-k : tie.Need-shared-slice-read-k Inv-loop μ-loop
+shared-slice-read-k c = search needs
+
+mul-k-2 : tie.Need-mul-k-2 Inv-loop μ-loop
+mul-k-2 c = omega (arith, c .before .before .before .before .before .before .before .before .before .before .before .before .before .before .before .pre .1 .ends (c .before .before .before .before .before .before .before .before .before .before .before .loop .i + 9) (omega arith))
+
+xor10-at-requires : tie.Need-xor10-at-requires Inv-loop μ-loop
+xor10-at-requires c κs = (omega (arith, c .before .before .before .before .before .before .before .before .before .before .before .before .before .before .before .before .pre .0, c .before .before .before .before .before .before .before .before .before .before .before .before .loop .inv .2), c .before .before .before .before .before .before .before .before .before .before .before .before .before .before .before .before .pre .1 .ends (c .before .before .before .before .before .before .before .before .before .before .before .before .loop .i) (omega arith), c .before .before .before .before .before .before .before .before .before .before .before .before .before .before .before .before .pre .1 .ends (c .before .before .before .before .before .before .before .before .before .before .before .before .loop .i + 1) (omega arith), c .before .before .before .before .before .before .before .before .before .before .before .before .before .before .before .before .pre .1 .ends (c .before .before .before .before .before .before .before .before .before .before .before .before .loop .i + 2) (omega arith), c .before .before .before .before .before .before .before .before .before .before .before .before .before .before .before .before .pre .1 .ends (c .before .before .before .before .before .before .before .before .before .before .before .before .loop .i + 3) (omega arith), c .before .before .before .before .before .before .before .before .before .before .before .before .before .before .before .before .pre .1 .ends (c .before .before .before .before .before .before .before .before .before .before .before .before .loop .i + 4) (omega arith), c .before .before .before .before .before .before .before .before .before .before .before .before .before .before .before .before .pre .1 .ends (c .before .before .before .before .before .before .before .before .before .before .before .before .loop .i + 5) (omega arith), c .before .before .before .before .before .before .before .before .before .before .before .before .before .before .before .before .pre .1 .ends (c .before .before .before .before .before .before .before .before .before .before .before .before .loop .i + 6) (omega arith), c .before .before .before .before .before .before .before .before .before .before .before .before .before .before .before .before .pre .1 .ends (c .before .before .before .before .before .before .before .before .before .before .before .before .loop .i + 7) (omega arith), c .before .before .before .before .before .before .before .before .before .before .before .before .before .before .before .before .pre .1 .ends (c .before .before .before .before .before .before .before .before .before .before .before .before .loop .i + 8) (omega arith), c .before .before .before .before .before .before .before .before .before .before .before .before .before .before .before .before .pre .1 .ends (c .before .before .before .before .before .before .before .before .before .before .before .before .loop .i + 9) (omega arith))
+
+add-i : tie.Need-add-i Inv-loop μ-loop
+add-i c = search needs
+
+loop-less : tie.Need-loop-less Inv-loop μ-loop
+loop-less c = search needs
+
+loop-again : tie.Need-loop-again Inv-loop μ-loop
+loop-again c = (
+  omega arith,
+  rw (c .before .before .xor10-at .ensures, c .before .before .before .before .before .before .before .before .before .before .before .before .before .before .before .loop .inv .1) (ten-rows (c .before .before .before .before .before .before .before .before .before .before .before .before .before .before .before .before .before .before .before .args .media .now) (c .before .before .before .before .before .before .before .before .before .before .before .before .before .before .before .before .before .before .before .args .rows .now) (c .before .before .before .before .before .before .before .before .before .before .before .before .before .before .before .before .before .before .before .args .at) (c .before .before .before .before .before .before .before .before .before .before .before .before .before .before .before .before .before .before .before .args .p) (c .before .before .before .before .before .before .before .before .before .before .before .before .before .before .before .before .before .before .before .args .sum .now) (c .before .before .before .before .before .before .before .before .before .before .before .before .before .before .before .loop .i) (omega (arith, c .before .before .before .before .before .before .before .before .before .before .before .before .before .before .before .before .before .before .before .pre .1 .long))),
+  omega (arith, c .before .before .xor10-at .kept),
+)
+
+same-length : tie.Need-same-length Inv-loop μ-loop
+same-length c = search needs
+
+returns : tie.Need-returns Inv-loop μ-loop
+returns c = (omega arith, c .before .loop .inv .1)
+
+pub xor-tens-spec : {M : Type 1} → statement M
+xor-tens-spec =
+    tie.close
+    (tie.spec
+    Inv-loop
+    μ-loop
+    loop-holds
+    sub-loop
+    mul-a
+    shared-slice-read-a
+    mul-a-2
+    add-b
+    mul-b
+    shared-slice-read-b
+    mul-b-2
+    add-c
+    mul-c
+    shared-slice-read-c
+    mul-c-2
+    add-d
+    mul-d
+    shared-slice-read-d
+    mul-d-2
+    add-e
+    mul-e
+    shared-slice-read-e
+    mul-e-2
+    add-f
+    mul-f
+    shared-slice-read-f
+    mul-f-2
+    add-g
+    mul-g
+    shared-slice-read-g
+    mul-g-2
+    add-h
+    mul-h
+    shared-slice-read-h
+    mul-h-2
+    add-j
+    mul-j
+    shared-slice-read-j
+    mul-j-2
+    add-k
+    mul-k
+    shared-slice-read-k
+    mul-k-2
+    xor10-at-requires
+    add-i
+    loop-less
+    loop-again
+    same-length
+    returns)
