@@ -2,7 +2,6 @@
 use mathlib.Core.Path.{_≡_, refl}
 use Prim.Native.Nat.{_≤_, _-_, _+_}
 use native.Mathlib.Omega.{arith}
-use borrow.Author.Needs.{needs}
 use Rattle.xor.specs.Xor.{xorParts}
 use Rattle.parity.specs.Rows.{places}
 use lib.ListN.{length, take, drop}
@@ -20,40 +19,40 @@ loop-holds : tie.Need-loop-holds Inv-loop μ-loop
 loop-holds c = (omega arith, omega arith, none-yet (c .before .before .before .args .media .now) (c .before .before .before .args .rows .now) (c .before .before .before .args .at) (c .before .before .before .args .p) (c .before .before .before .args .sum .now) (c .before .before .before .args .from), refl)
 
 sub-loop : tie.Need-sub-loop Inv-loop μ-loop
-sub-loop c = search needs
+sub-loop c = omega arith
 
 mul-a : tie.Need-mul-a Inv-loop μ-loop
-mul-a c = search needs
+mul-a c = omega arith
 
 shared-slice-read-a : tie.Need-shared-slice-read-a Inv-loop μ-loop
-shared-slice-read-a c = search needs
+shared-slice-read-a c = omega arith
 
 add-b : tie.Need-add-b Inv-loop μ-loop
-add-b c = search needs
+add-b c = omega arith
 
 mul-b : tie.Need-mul-b Inv-loop μ-loop
-mul-b c = search needs
+mul-b c = omega arith
 
 shared-slice-read-b : tie.Need-shared-slice-read-b Inv-loop μ-loop
-shared-slice-read-b c = search needs
+shared-slice-read-b c = omega arith
 
 add-c : tie.Need-add-c Inv-loop μ-loop
-add-c c = search needs
+add-c c = omega arith
 
 mul-c : tie.Need-mul-c Inv-loop μ-loop
-mul-c c = search needs
+mul-c c = omega arith
 
 shared-slice-read-c : tie.Need-shared-slice-read-c Inv-loop μ-loop
-shared-slice-read-c c = search needs
+shared-slice-read-c c = omega arith
 
 add-d : tie.Need-add-d Inv-loop μ-loop
-add-d c = search needs
+add-d c = omega arith
 
 mul-d : tie.Need-mul-d Inv-loop μ-loop
-mul-d c = search needs
+mul-d c = omega arith
 
 shared-slice-read-d : tie.Need-shared-slice-read-d Inv-loop μ-loop
-shared-slice-read-d c = search needs
+shared-slice-read-d c = omega arith
 
 mul-xor4-at : tie.Need-mul-xor4-at Inv-loop μ-loop
 mul-xor4-at c = omega (arith, c .before .before .before .before .before .before .before .before .before .before .pre .2 .ends (c .before .before .before .before .before .before .loop .i) (omega arith))
@@ -71,10 +70,10 @@ xor4-at-requires : tie.Need-xor4-at-requires Inv-loop μ-loop
 xor4-at-requires c κs = (omega (arith, c .before .before .before .before .before .before .before .before .before .before .pre .0, c .before .before .before .before .before .before .loop .inv .3), c .before .before .before .before .before .before .before .before .before .before .pre .2 .ends (c .before .before .before .before .before .before .loop .i) (omega arith), c .before .before .before .before .before .before .before .before .before .before .pre .2 .ends (c .before .before .before .before .before .before .loop .i + 1) (omega arith), c .before .before .before .before .before .before .before .before .before .before .pre .2 .ends (c .before .before .before .before .before .before .loop .i + 2) (omega arith), c .before .before .before .before .before .before .before .before .before .before .pre .2 .ends (c .before .before .before .before .before .before .loop .i + 3) (omega arith))
 
 add-i : tie.Need-add-i Inv-loop μ-loop
-add-i c = search needs
+add-i c = omega arith
 
 loop-less : tie.Need-loop-less Inv-loop μ-loop
-loop-less c = search needs
+loop-less c = omega arith
 
 loop-again : tie.Need-loop-again Inv-loop μ-loop
 loop-again c = (
@@ -85,7 +84,7 @@ loop-again c = (
 )
 
 same-length : tie.Need-same-length Inv-loop μ-loop
-same-length c = search needs
+same-length c = omega arith
 
 returns : tie.Need-returns Inv-loop μ-loop
 returns c = (c .before .loop .inv .0, omega arith, c .before .loop .inv .2)

@@ -3,7 +3,6 @@ use mathlib.Core.Path.{_≡_, refl, _∙_}
 use Prim.Native.Nat.{_≤_, _-_}
 use native.Mathlib.Omega.{arith}
 use lib.ListN.{length, take, drop, length-take, drop-of-length-le}
-use borrow.Author.Needs.{needs}
 use Rattle.xor.specs.Xor.{xorParts}
 use Rattle.parity.specs.Rows.{places}
 use Rattle.parity.proofs.Turns.{rest-row}
@@ -20,10 +19,10 @@ loop-holds : tie.Need-loop-holds Inv-loop μ-loop
 loop-holds c = (omega arith, rw (drop-of-length-le (take (c .before .before .before .args .from) (c .before .before .before .args .rows .now)) {i = c .before .before .before .args .from} (simp length-take (omega arith))), refl, omega arith)
 
 mul-row : tie.Need-mul-row Inv-loop μ-loop
-mul-row c = search needs
+mul-row c = omega arith
 
 shared-slice-read-row : tie.Need-shared-slice-read-row Inv-loop μ-loop
-shared-slice-read-row c = search needs
+shared-slice-read-row c = omega arith
 
 mul-xor-at : tie.Need-mul-xor-at Inv-loop μ-loop
 mul-xor-at c = omega (arith, c .before .before .before .before .before .before .before .pre .2 .ends (c .before .before .before .loop .i) (omega arith))
@@ -32,10 +31,10 @@ xor-at-requires : tie.Need-xor-at-requires Inv-loop μ-loop
 xor-at-requires c κs = (omega arith, c .before .before .before .before .before .before .before .pre .2 .ends (c .before .before .before .loop .i) (omega arith))
 
 add-i : tie.Need-add-i Inv-loop μ-loop
-add-i c = search needs
+add-i c = omega arith
 
 loop-less : tie.Need-loop-less Inv-loop μ-loop
-loop-less c = search needs
+loop-less c = omega arith
 
 loop-again : tie.Need-loop-again Inv-loop μ-loop
 loop-again c = (
@@ -46,7 +45,7 @@ loop-again c = (
 )
 
 same-length : tie.Need-same-length Inv-loop μ-loop
-same-length c = search needs
+same-length c = omega arith
 
 returns : tie.Need-returns Inv-loop μ-loop
 returns c = let e : c .before .loop .i ≡ c .before .before .before .before .before .args .n = omega arith in c .before .loop .inv .1 ∙ rw e

@@ -20,121 +20,121 @@ loop-holds : tie.Need-loop-holds Inv-loop μ-loop
 loop-holds c = search needs
 
 sub-loop : tie.Need-sub-loop Inv-loop μ-loop
-sub-loop c = search needs
+sub-loop c = omega arith
 
 mul-a : tie.Need-mul-a Inv-loop μ-loop
-mul-a c = search needs
+mul-a c = omega arith
 
 shared-slice-read-a : tie.Need-shared-slice-read-a Inv-loop μ-loop
-shared-slice-read-a c = search needs
+shared-slice-read-a c = omega arith
 
 mul-a-2 : tie.Need-mul-a-2 Inv-loop μ-loop
 mul-a-2 c = omega (arith, c .before .before .before .before .before .before .pre .1 .ends (c .before .before .loop .i) (omega arith))
 
 add-b : tie.Need-add-b Inv-loop μ-loop
-add-b c = search needs
+add-b c = omega arith
 
 mul-b : tie.Need-mul-b Inv-loop μ-loop
-mul-b c = search needs
+mul-b c = omega arith
 
 shared-slice-read-b : tie.Need-shared-slice-read-b Inv-loop μ-loop
-shared-slice-read-b c = search needs
+shared-slice-read-b c = omega arith
 
 mul-b-2 : tie.Need-mul-b-2 Inv-loop μ-loop
 mul-b-2 c = omega (arith, c .before .before .before .before .before .before .before .pre .1 .ends (c .before .before .before .loop .i + 1) (omega arith))
 
 add-c : tie.Need-add-c Inv-loop μ-loop
-add-c c = search needs
+add-c c = omega arith
 
 mul-c : tie.Need-mul-c Inv-loop μ-loop
-mul-c c = search needs
+mul-c c = omega arith
 
 shared-slice-read-c : tie.Need-shared-slice-read-c Inv-loop μ-loop
-shared-slice-read-c c = search needs
+shared-slice-read-c c = omega arith
 
 mul-c-2 : tie.Need-mul-c-2 Inv-loop μ-loop
 mul-c-2 c = omega (arith, c .before .before .before .before .before .before .before .before .pre .1 .ends (c .before .before .before .before .loop .i + 2) (omega arith))
 
 add-d : tie.Need-add-d Inv-loop μ-loop
-add-d c = search needs
+add-d c = omega arith
 
 mul-d : tie.Need-mul-d Inv-loop μ-loop
-mul-d c = search needs
+mul-d c = omega arith
 
 shared-slice-read-d : tie.Need-shared-slice-read-d Inv-loop μ-loop
-shared-slice-read-d c = search needs
+shared-slice-read-d c = omega arith
 
 mul-d-2 : tie.Need-mul-d-2 Inv-loop μ-loop
 mul-d-2 c = omega (arith, c .before .before .before .before .before .before .before .before .before .pre .1 .ends (c .before .before .before .before .before .loop .i + 3) (omega arith))
 
 add-e : tie.Need-add-e Inv-loop μ-loop
-add-e c = search needs
+add-e c = omega arith
 
 mul-e : tie.Need-mul-e Inv-loop μ-loop
-mul-e c = search needs
+mul-e c = omega arith
 
 shared-slice-read-e : tie.Need-shared-slice-read-e Inv-loop μ-loop
-shared-slice-read-e c = search needs
+shared-slice-read-e c = omega arith
 
 mul-e-2 : tie.Need-mul-e-2 Inv-loop μ-loop
 mul-e-2 c = omega (arith, c .before .before .before .before .before .before .before .before .before .before .pre .1 .ends (c .before .before .before .before .before .before .loop .i + 4) (omega arith))
 
 add-f : tie.Need-add-f Inv-loop μ-loop
-add-f c = search needs
+add-f c = omega arith
 
 mul-f : tie.Need-mul-f Inv-loop μ-loop
-mul-f c = search needs
+mul-f c = omega arith
 
 shared-slice-read-f : tie.Need-shared-slice-read-f Inv-loop μ-loop
-shared-slice-read-f c = search needs
+shared-slice-read-f c = omega arith
 
 mul-f-2 : tie.Need-mul-f-2 Inv-loop μ-loop
 mul-f-2 c = omega (arith, c .before .before .before .before .before .before .before .before .before .before .before .pre .1 .ends (c .before .before .before .before .before .before .before .loop .i + 5) (omega arith))
 
 add-g : tie.Need-add-g Inv-loop μ-loop
-add-g c = search needs
+add-g c = omega arith
 
 mul-g : tie.Need-mul-g Inv-loop μ-loop
-mul-g c = search needs
+mul-g c = omega arith
 
 shared-slice-read-g : tie.Need-shared-slice-read-g Inv-loop μ-loop
-shared-slice-read-g c = search needs
+shared-slice-read-g c = omega arith
 
 mul-g-2 : tie.Need-mul-g-2 Inv-loop μ-loop
 mul-g-2 c = omega (arith, c .before .before .before .before .before .before .before .before .before .before .before .before .pre .1 .ends (c .before .before .before .before .before .before .before .before .loop .i + 6) (omega arith))
 
 add-h : tie.Need-add-h Inv-loop μ-loop
-add-h c = search needs
+add-h c = omega arith
 
 mul-h : tie.Need-mul-h Inv-loop μ-loop
-mul-h c = search needs
+mul-h c = omega arith
 
 shared-slice-read-h : tie.Need-shared-slice-read-h Inv-loop μ-loop
-shared-slice-read-h c = search needs
+shared-slice-read-h c = omega arith
 
 mul-h-2 : tie.Need-mul-h-2 Inv-loop μ-loop
 mul-h-2 c = omega (arith, c .before .before .before .before .before .before .before .before .before .before .before .before .before .pre .1 .ends (c .before .before .before .before .before .before .before .before .before .loop .i + 7) (omega arith))
 
 add-j : tie.Need-add-j Inv-loop μ-loop
-add-j c = search needs
+add-j c = omega arith
 
 mul-j : tie.Need-mul-j Inv-loop μ-loop
-mul-j c = search needs
+mul-j c = omega arith
 
 shared-slice-read-j : tie.Need-shared-slice-read-j Inv-loop μ-loop
-shared-slice-read-j c = search needs
+shared-slice-read-j c = omega arith
 
 mul-j-2 : tie.Need-mul-j-2 Inv-loop μ-loop
 mul-j-2 c = omega (arith, c .before .before .before .before .before .before .before .before .before .before .before .before .before .before .pre .1 .ends (c .before .before .before .before .before .before .before .before .before .before .loop .i + 8) (omega arith))
 
 add-k : tie.Need-add-k Inv-loop μ-loop
-add-k c = search needs
+add-k c = omega arith
 
 mul-k : tie.Need-mul-k Inv-loop μ-loop
-mul-k c = search needs
+mul-k c = omega arith
 
 shared-slice-read-k : tie.Need-shared-slice-read-k Inv-loop μ-loop
-shared-slice-read-k c = search needs
+shared-slice-read-k c = omega arith
 
 mul-k-2 : tie.Need-mul-k-2 Inv-loop μ-loop
 mul-k-2 c = omega (arith, c .before .before .before .before .before .before .before .before .before .before .before .before .before .before .before .pre .1 .ends (c .before .before .before .before .before .before .before .before .before .before .before .loop .i + 9) (omega arith))
@@ -143,10 +143,10 @@ xor10-at-requires : tie.Need-xor10-at-requires Inv-loop μ-loop
 xor10-at-requires c κs = (omega (arith, c .before .before .before .before .before .before .before .before .before .before .before .before .before .before .before .before .pre .0, c .before .before .before .before .before .before .before .before .before .before .before .before .loop .inv .2), c .before .before .before .before .before .before .before .before .before .before .before .before .before .before .before .before .pre .1 .ends (c .before .before .before .before .before .before .before .before .before .before .before .before .loop .i) (omega arith), c .before .before .before .before .before .before .before .before .before .before .before .before .before .before .before .before .pre .1 .ends (c .before .before .before .before .before .before .before .before .before .before .before .before .loop .i + 1) (omega arith), c .before .before .before .before .before .before .before .before .before .before .before .before .before .before .before .before .pre .1 .ends (c .before .before .before .before .before .before .before .before .before .before .before .before .loop .i + 2) (omega arith), c .before .before .before .before .before .before .before .before .before .before .before .before .before .before .before .before .pre .1 .ends (c .before .before .before .before .before .before .before .before .before .before .before .before .loop .i + 3) (omega arith), c .before .before .before .before .before .before .before .before .before .before .before .before .before .before .before .before .pre .1 .ends (c .before .before .before .before .before .before .before .before .before .before .before .before .loop .i + 4) (omega arith), c .before .before .before .before .before .before .before .before .before .before .before .before .before .before .before .before .pre .1 .ends (c .before .before .before .before .before .before .before .before .before .before .before .before .loop .i + 5) (omega arith), c .before .before .before .before .before .before .before .before .before .before .before .before .before .before .before .before .pre .1 .ends (c .before .before .before .before .before .before .before .before .before .before .before .before .loop .i + 6) (omega arith), c .before .before .before .before .before .before .before .before .before .before .before .before .before .before .before .before .pre .1 .ends (c .before .before .before .before .before .before .before .before .before .before .before .before .loop .i + 7) (omega arith), c .before .before .before .before .before .before .before .before .before .before .before .before .before .before .before .before .pre .1 .ends (c .before .before .before .before .before .before .before .before .before .before .before .before .loop .i + 8) (omega arith), c .before .before .before .before .before .before .before .before .before .before .before .before .before .before .before .before .pre .1 .ends (c .before .before .before .before .before .before .before .before .before .before .before .before .loop .i + 9) (omega arith))
 
 add-i : tie.Need-add-i Inv-loop μ-loop
-add-i c = search needs
+add-i c = omega arith
 
 loop-less : tie.Need-loop-less Inv-loop μ-loop
-loop-less c = search needs
+loop-less c = omega arith
 
 loop-again : tie.Need-loop-again Inv-loop μ-loop
 loop-again c = (
@@ -156,7 +156,7 @@ loop-again c = (
 )
 
 same-length : tie.Need-same-length Inv-loop μ-loop
-same-length c = search needs
+same-length c = omega arith
 
 returns : tie.Need-returns Inv-loop μ-loop
 returns c = (omega arith, c .before .loop .inv .1)

@@ -5,7 +5,6 @@ use Prim.Native.Nat.{_≤_, _-_}
 use native.Mathlib.Omega.{arith}
 use lib.ListN.{getD, take}
 use lib.Bits.{bitXor, xor-zero-r}
-use borrow.Author.Needs.{needs}
 use Rattle.xor.specs.Xor.{xorAll}
 use Rattle.parity.proofs.Turns.{one-timestamp}
 use Rattle.parity.proofs.xor_timestamps.Statement.{statement}
@@ -21,10 +20,10 @@ loop-holds : tie.Need-loop-holds Inv-loop μ-loop
 loop-holds c = (omega arith, sym (xor-zero-r (c .args .with)))
 
 mul-row : tie.Need-mul-row Inv-loop μ-loop
-mul-row c = search needs
+mul-row c = omega arith
 
 shared-slice-read-row : tie.Need-shared-slice-read-row Inv-loop μ-loop
-shared-slice-read-row c = search needs
+shared-slice-read-row c = omega arith
 
 mul-sum : tie.Need-mul-sum Inv-loop μ-loop
 mul-sum c = omega (arith, c .before .before .before .pre .1 (c .before .before .loop .i) (omega arith))
@@ -33,10 +32,10 @@ shared-slice-read-sum : tie.Need-shared-slice-read-sum Inv-loop μ-loop
 shared-slice-read-sum c = c .before .before .before .before .pre .1 (c .before .before .before .loop .i) (omega arith)
 
 add-i : tie.Need-add-i Inv-loop μ-loop
-add-i c = search needs
+add-i c = omega arith
 
 loop-less : tie.Need-loop-less Inv-loop μ-loop
-loop-less c = search needs
+loop-less c = omega arith
 
 loop-again : tie.Need-loop-again Inv-loop μ-loop
 loop-again c = (omega arith, rw (c .before .before .before .loop .inv .1) (one-timestamp (λ k. getD (c .before .before .before .before .args .timestamps .now) k 0) (c .before .before .before .before .args .rows .now) (c .before .before .before .loop .i) (c .before .before .before .before .args .with) (omega arith)))

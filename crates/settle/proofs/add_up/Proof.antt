@@ -1,6 +1,6 @@
 -- `settle::add_up` meets its contract: the rows are the members that are present. Assumes nothing.
 use native.Mathlib.Omega.{arith}
-use mathlib.Core.Path.{_≡_, sym, ap, _∙_}
+use mathlib.Core.Path.{ap, _∙_}
 use mathlib.Core.List.{List, map}
 use Prim.Native.Nat.{ℕ}
 use lib.ListN.{getD, take, drop}
@@ -9,21 +9,20 @@ use lib.Bits.{bitXor}
 use Rattle.xor.specs.Xor.{zipXor, xorAll, xorPayloads}
 use Rattle.parity.specs.Sum.{rowAt, rows-sum}
 use Rattle.settle.proofs.Members.{members-asked, rows-asked, stamps-asked, held, held-below, below-ends}
-use borrow.Author.Needs.{needs}
 use Rattle.settle.proofs.add_up.Statement.{statement}
 use Rattle.settle.proofs.add_up.Tie as tie
 
 position-requires : tie.Need-position-requires
-position-requires c κs = search needs
+position-requires c κs = omega arith
 
 cast-at : tie.Need-cast-at
-cast-at c = search needs
+cast-at c = omega arith
 
 offset-of-requires : tie.Need-offset-of-requires
-offset-of-requires c κs = search needs
+offset-of-requires c κs = omega arith
 
 na-of-requires : tie.Need-na-of-requires
-na-of-requires c κs = search needs
+na-of-requires c κs = omega arith
 
 members-present-requires : tie.Need-members-present-requires
 members-present-requires c κs =
@@ -31,7 +30,7 @@ members-present-requires c κs =
     members-asked (the-args .w .base) (the-args .w .l) (the-args .w .d) (the-args .stream) (the-args .start) (the-args .w .n) (c .before .before .position .result) (c .before .offset-of .result) (c .na-of .result) (omega (arith, c .before .before .before .before .before .before .before .good)) (c .before .before .before .before .before .before .before .pre .0 .profile) (c .before .before .before .before .before .before .before .pre .0 .n-high) (c .before .before .before .before .before .before .before .pre .1) (c .before .before .position .ensures) (c .before .offset-of .ensures) (c .na-of .ensures) (the-args .marks .now) (c .before .before .before .before .before .before .before .pre .5)
 
 slice-aggregate-xor-rows : tie.Need-slice-aggregate-xor-rows
-slice-aggregate-xor-rows c = search needs
+slice-aggregate-xor-rows c = omega arith
 
 xor-rows-requires : tie.Need-xor-rows-requires
 xor-rows-requires c κs =
@@ -39,7 +38,7 @@ xor-rows-requires c κs =
     (c .before .before .before .before .before .before .before .before .before .before .before .pre .2, rows-asked (the-args .w .base) (the-args .w .l) (the-args .w .d) (the-args .stream) (the-args .start) (the-args .w .n) (c .before .before .before .before .before .before .position .result) (c .before .before .before .before .before .offset-of .result) (c .before .before .before .before .na-of .result) (omega (arith, c .before .before .before .before .before .before .before .before .before .before .before .good)) (c .before .before .before .before .before .before .before .before .before .before .before .pre .0 .profile) (c .before .before .before .before .before .before .before .before .before .before .before .pre .0 .n-high) (c .before .before .before .before .before .before .before .before .before .before .before .pre .1) (c .before .before .before .before .before .before .position .ensures) (c .before .before .before .before .before .offset-of .ensures) (c .before .before .before .before .na-of .ensures) (the-args .marks .now) (c .before .before .before .members-present .result .rows) (c .before .before .before .members-present .result .n) (c .before .before .before .members-present .ensures .0) (c .before .before .before .members-present .ensures .1) (c .before .before .before .members-present .ensures .2) (the-args .w .p) (the-args .media .now) (c .before .before .before .before .before .before .before .before .before .before .before .pre .3))
 
 slice-aggregate-xor-timestamps : tie.Need-slice-aggregate-xor-timestamps
-slice-aggregate-xor-timestamps c = search needs
+slice-aggregate-xor-timestamps c = omega arith
 
 xor-timestamps-requires : tie.Need-xor-timestamps-requires
 xor-timestamps-requires c κs =
@@ -47,7 +46,7 @@ xor-timestamps-requires c κs =
     stamps-asked (the-args .w .base) (the-args .w .l) (the-args .w .d) (the-args .stream) (the-args .start) (the-args .w .n) (c .before .before .before .before .before .before .before .before .before .before .position .result) (c .before .before .before .before .before .before .before .before .before .offset-of .result) (c .before .before .before .before .before .before .before .before .na-of .result) (omega (arith, c .before .before .before .before .before .before .before .before .before .before .before .before .before .before .before .good)) (c .before .before .before .before .before .before .before .before .before .before .before .before .before .before .before .pre .0 .profile) (c .before .before .before .before .before .before .before .before .before .before .before .before .before .before .before .pre .0 .n-high) (c .before .before .before .before .before .before .before .before .before .before .before .before .before .before .before .pre .1) (c .before .before .before .before .before .before .before .before .before .before .position .ensures) (c .before .before .before .before .before .before .before .before .before .offset-of .ensures) (c .before .before .before .before .before .before .before .before .na-of .ensures) (the-args .marks .now) (c .before .before .before .before .before .before .before .members-present .result .rows) (c .before .before .before .before .before .before .before .members-present .result .n) (c .before .before .before .before .before .before .before .members-present .ensures .0) (c .before .before .before .before .before .before .before .members-present .ensures .1) (c .before .before .before .before .before .before .before .members-present .ensures .2) (the-args .timestamps .now) (c .before .before .before .before .before .before .before .before .before .before .before .before .before .before .before .pre .4)
 
 same-length : tie.Need-same-length
-same-length c = search needs
+same-length c = omega arith
 
 returns : tie.Need-returns
 returns c =

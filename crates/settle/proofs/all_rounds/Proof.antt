@@ -8,7 +8,6 @@ use Rattle.settle.specs.Counts.{Counted}
 use Rattle.settle.specs.Settle.{settle}
 use Rattle.settle.proofs.Rounds.{next-same}
 use Rattle.settle.proofs.Settling.{Going, going-start, going-asks, going-on, going-rest, going-done}
-use borrow.Author.Needs.{needs}
 use Rattle.settle.proofs.all_rounds.Statement.{statement}
 use Rattle.settle.proofs.all_rounds.Tie as tie
 
@@ -95,31 +94,31 @@ loop-again c =
     )
 
 same-length-10 : tie.Need-same-length-10 Inv-loop μ-loop
-same-length-10 c = search needs
+same-length-10 c = omega arith
 
 same-length-11 : tie.Need-same-length-11 Inv-loop μ-loop
-same-length-11 c = search needs
+same-length-11 c = omega arith
 
 same-length-12 : tie.Need-same-length-12 Inv-loop μ-loop
-same-length-12 c = search needs
+same-length-12 c = omega arith
 
 same-length-13 : tie.Need-same-length-13 Inv-loop μ-loop
-same-length-13 c = search needs
+same-length-13 c = omega arith
 
 same-length-14 : tie.Need-same-length-14 Inv-loop μ-loop
-same-length-14 c = search needs
+same-length-14 c = omega arith
 
 same-length-15 : tie.Need-same-length-15 Inv-loop μ-loop
-same-length-15 c = search needs
+same-length-15 c = omega arith
 
 same-length-16 : tie.Need-same-length-16 Inv-loop μ-loop
-same-length-16 c = search needs
+same-length-16 c = omega arith
 
 same-length-17 : tie.Need-same-length-17 Inv-loop μ-loop
-same-length-17 c = search needs
+same-length-17 c = omega arith
 
 same-length-18 : tie.Need-same-length-18 Inv-loop μ-loop
-same-length-18 c = search needs
+same-length-18 c = omega arith
 
 returns-2 : tie.Need-returns-2 Inv-loop μ-loop
 unfolding settle

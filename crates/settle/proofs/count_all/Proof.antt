@@ -5,7 +5,6 @@ use native.Mathlib.Omega.{arith}
 use lib.ListN.{length, length-set}
 use Rattle.settle.specs.Counts.{Counted}
 use Rattle.settle.proofs.Counts.{counted-more}
-use borrow.Author.Needs.{needs}
 use Rattle.settle.proofs.count_all.Statement.{statement}
 use Rattle.settle.proofs.count_all.Tie as tie
 
@@ -24,13 +23,13 @@ lack-of-requires c κs =
     (the-pre .0, the-pre .1, omega arith, the-pre .2, the-pre .3, the-pre .4, the-pre .5)
 
 slice-write-counts : tie.Need-slice-write-counts Inv-loop μ-loop
-slice-write-counts c = search needs
+slice-write-counts c = omega arith
 
 add-r : tie.Need-add-r Inv-loop μ-loop
-add-r c = search needs
+add-r c = omega arith
 
 loop-less : tie.Need-loop-less Inv-loop μ-loop
-loop-less c = search needs
+loop-less c = omega arith
 
 loop-again : tie.Need-loop-again Inv-loop μ-loop
 loop-again c =
@@ -42,7 +41,7 @@ loop-again c =
     )
 
 same-length : tie.Need-same-length Inv-loop μ-loop
-same-length c = search needs
+same-length c = omega arith
 
 returns : tie.Need-returns Inv-loop μ-loop
 returns c = let e : c .before .loop .r ≡ c .before .before .before .before .before .before .before .args .w .k = omega arith in rw e at (c .before .loop .inv .3)

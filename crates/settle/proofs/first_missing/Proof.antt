@@ -1,26 +1,25 @@
 -- `settle::first_missing` meets its contract: the line is the group. Assumes nothing.
-use mathlib.Core.Path.{_≡_, ap, _∙_}
+use mathlib.Core.Path.{ap, _∙_}
 use mathlib.Core.List.{List}
 use Prim.Native.Nat.{ℕ}
 use native.Mathlib.Omega.{arith}
 use Rattle.sequence.specs.Lists.{keep, headOr}
 use Rattle.settle.specs.Scan.{unmarked}
 use Rattle.settle.proofs.Members.{members-asked, line-group}
-use borrow.Author.Needs.{needs}
 use Rattle.settle.proofs.first_missing.Statement.{statement}
 use Rattle.settle.proofs.first_missing.Tie as tie
 
 position-requires : tie.Need-position-requires
-position-requires c κs = search needs
+position-requires c κs = omega arith
 
 cast-at : tie.Need-cast-at
-cast-at c = search needs
+cast-at c = omega arith
 
 offset-of-requires : tie.Need-offset-of-requires
-offset-of-requires c κs = search needs
+offset-of-requires c κs = omega arith
 
 na-of-requires : tie.Need-na-of-requires
-na-of-requires c κs = search needs
+na-of-requires c κs = omega arith
 
 first-unmarked-requires : tie.Need-first-unmarked-requires
 first-unmarked-requires c κs =

@@ -1,11 +1,9 @@
 -- `settle::first_unmarked` meets its contract: of the members passed none is missing. Assumes nothing.
-use mathlib.Core.Path.{_≡_, refl, sym, ap, _∙_}
+use mathlib.Core.Path.{_≡_, refl}
 use mathlib.Core.List.{[]}
-use Prim.Native.Nat.{ℕ, _≤_, _<_, _-_, _+_, _*_}
+use Prim.Native.Nat.{_≤_, _-_, _+_, _*_}
 use native.Mathlib.Omega.{arith}
-use borrow.Author.Tests.{lt-ltb, le-ltb, eq-eqb, ne-eqb}
-use lib.ListN.{length}
-use borrow.Author.Needs.{needs}
+use borrow.Author.Tests.{eq-eqb, ne-eqb}
 use Rattle.sequence.specs.Lists.{keep}
 use Rattle.parity.specs.Rows.{line}
 use Rattle.settle.specs.Scan.{unmarked}
@@ -35,10 +33,10 @@ returns : tie.Need-returns Inv-loop μ-loop
 returns c = first-here (unmarked (c .before .before .before .before .args .marks .now)) (λ j. c .before .before .before .before .args .at + j * c .before .before .before .before .args .offset) (c .before .before .before .loop .j) (c .before .before .before .before .args .na) (omega arith) (c .before .before .before .loop .inv .1) (eq-eqb _ 0 (c .if1 .taken))
 
 add-j : tie.Need-add-j Inv-loop μ-loop
-add-j c = search needs
+add-j c = omega arith
 
 loop-less : tie.Need-loop-less Inv-loop μ-loop
-loop-less c = search needs
+loop-less c = omega arith
 
 loop-again : tie.Need-loop-again Inv-loop μ-loop
 loop-again c = (omega arith, none-more (unmarked (c .before .before .before .before .args .marks .now)) (λ j. c .before .before .before .before .args .at + j * c .before .before .before .before .args .offset) (c .before .before .before .loop .j) (c .before .before .before .loop .inv .1) (ne-eqb _ 0 (c .if1 .left)))

@@ -6,24 +6,23 @@ use borrow.Author.Tests.{eq-eqb}
 use Rattle.window.specs.Plain.{inside-more}
 use Rattle.settle.specs.Scan.{unmarked}
 use Rattle.settle.proofs.Counts.{few}
-use borrow.Author.Needs.{needs}
 use Rattle.settle.proofs.lack_of.Statement.{statement}
 use Rattle.settle.proofs.lack_of.Tie as tie
 
 shared-slice-read-if1 : tie.Need-shared-slice-read-if1
-shared-slice-read-if1 c = search needs
+shared-slice-read-if1 c = omega arith
 
 returns : tie.Need-returns
 returns c = λ u. absurd (c .if1 .taken u)
 
 shared-slice-read-lack : tie.Need-shared-slice-read-lack
-shared-slice-read-lack c = search needs
+shared-slice-read-lack c = omega arith
 
 mul-lack : tie.Need-mul-lack
-mul-lack c = search needs
+mul-lack c = omega arith
 
 shared-slice-read-lack-2 : tie.Need-shared-slice-read-lack-2
-shared-slice-read-lack-2 c = search needs
+shared-slice-read-lack-2 c = omega arith
 
 lack-requires : tie.Need-lack-requires
 lack-requires c κs =

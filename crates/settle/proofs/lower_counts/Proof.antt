@@ -4,7 +4,6 @@ use Prim.Native.Nat.{_≤_, _-_}
 use native.Mathlib.Omega.{arith}
 use Rattle.settle.specs.Counts.{Lowered}
 use Rattle.settle.proofs.Counts.{lowered-more}
-use borrow.Author.Needs.{needs}
 use Rattle.settle.proofs.lower_counts.Statement.{statement}
 use Rattle.settle.proofs.lower_counts.Tie as tie
 
@@ -26,16 +25,16 @@ slice-read-less-where : tie.Need-slice-read-less-where Inv-loop μ-loop
 slice-read-less-where c = omega (arith, c .before .before .before .loop .inv .2 .long)
 
 less-where-requires : tie.Need-less-where-requires Inv-loop μ-loop
-less-where-requires c κs = search needs
+less-where-requires c κs = omega arith
 
 slice-write-counts : tie.Need-slice-write-counts Inv-loop μ-loop
 slice-write-counts c = omega (arith, c .before .before .before .before .loop .inv .2 .long)
 
 add-r : tie.Need-add-r Inv-loop μ-loop
-add-r c = search needs
+add-r c = omega arith
 
 loop-less : tie.Need-loop-less Inv-loop μ-loop
-loop-less c = search needs
+loop-less c = omega arith
 
 loop-again : tie.Need-loop-again Inv-loop μ-loop
 loop-again c =

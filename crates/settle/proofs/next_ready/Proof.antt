@@ -10,7 +10,6 @@ use Rattle.settle.specs.Scan.{scene}
 use Rattle.settle.specs.Settle.{next, nextBelow}
 use Rattle.settle.proofs.Counts.{counted-ready}
 use Rattle.settle.proofs.Scan.{Leads, leads-more, pick-low}
-use borrow.Author.Needs.{needs}
 use Rattle.settle.proofs.next_ready.Statement.{statement}
 use Rattle.settle.proofs.next_ready.Tie as tie
 
@@ -27,25 +26,25 @@ ready-requires : tie.Need-ready-requires Inv-loop μ-loop
 ready-requires c κs = (omega arith, omega arith)
 
 shared-slice-read-rank-of : tie.Need-shared-slice-read-rank-of Inv-loop μ-loop
-shared-slice-read-rank-of c = search needs
+shared-slice-read-rank-of c = omega arith
 
 mul-rank-of : tie.Need-mul-rank-of Inv-loop μ-loop
-mul-rank-of c = search needs
+mul-rank-of c = omega arith
 
 shared-slice-read-rank-of-2 : tie.Need-shared-slice-read-rank-of-2 Inv-loop μ-loop
-shared-slice-read-rank-of-2 c = search needs
+shared-slice-read-rank-of-2 c = omega arith
 
 rank-of-requires : tie.Need-rank-of-requires Inv-loop μ-loop
-rank-of-requires c κs = search needs
+rank-of-requires c κs = omega arith
 
 better-requires : tie.Need-better-requires Inv-loop μ-loop
-better-requires c κs = search needs
+better-requires c κs = omega arith
 
 add-r : tie.Need-add-r Inv-loop μ-loop
-add-r c = search needs
+add-r c = omega arith
 
 loop-less : tie.Need-loop-less Inv-loop μ-loop
-loop-less c = search needs
+loop-less c = omega arith
 
 loop-again : tie.Need-loop-again Inv-loop μ-loop
 loop-again c =

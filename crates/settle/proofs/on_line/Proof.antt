@@ -6,7 +6,6 @@ use borrow.Author.Tests.{ltb-false, leb-false}
 use Rattle.sequence.specs.Lists.{or-split}
 use Rattle.window.proofs.Product.{product-fits, product-le}
 use Rattle.settle.proofs.Counts.{beside, on-line}
-use borrow.Author.Needs.{needs}
 use Rattle.settle.proofs.on_line.Statement.{statement}
 use Rattle.settle.proofs.on_line.Tie as tie
 
@@ -23,7 +22,7 @@ sub-result : tie.Need-sub-result
 sub-result c = let h = ltb-false (c .before .args .i) (c .before .args .at) (or-split (ltb (c .before .args .i) (c .before .args .at)) (leb (c .before .args .at + c .before .args .na * c .before .args .offset) (c .before .args .i)) (c .if1 .left) .0) in omega arith
 
 rem-result : tie.Need-rem-result
-rem-result c = search needs
+rem-result c = omega arith
 
 returns-2 : tie.Need-returns-2
 returns-2 c =

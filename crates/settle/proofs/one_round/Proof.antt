@@ -10,24 +10,23 @@ use Rattle.settle.proofs.Members.{row-ends}
 use Rattle.settle.proofs.Release.{asked-all, long-uses}
 use Rattle.settle.proofs.Counts.{counted-rebuilt, counted-all}
 use Rattle.settle.proofs.Rounds.{round-none, round-some, next-none, next-some, next-inside, next-missing, rebuilt-by}
-use borrow.Author.Needs.{needs}
 use Rattle.settle.proofs.one_round.Statement.{statement}
 use Rattle.settle.proofs.one_round.Tie as tie
 
 next-ready-requires : tie.Need-next-ready-requires
-next-ready-requires c κs = search needs
+next-ready-requires c κs = omega arith
 
 same-length : tie.Need-same-length
-same-length c = search needs
+same-length c = omega arith
 
 same-length-2 : tie.Need-same-length-2
-same-length-2 c = search needs
+same-length-2 c = omega arith
 
 same-length-3 : tie.Need-same-length-3
-same-length-3 c = search needs
+same-length-3 c = omega arith
 
 same-length-4 : tie.Need-same-length-4
-same-length-4 c = search needs
+same-length-4 c = omega arith
 
 returns : tie.Need-returns
 returns c =
@@ -37,19 +36,19 @@ returns c =
     (λ b. rw (add-zero b) (round-none (scene (the-args .w) (stored (the-args .media .now) (the-args .timestamps .now) (the-args .marks .now) (the-args .parity .now) (the-args .streams .now) (the-args .snbases .now) (the-args .recoveries .now) (the-args .uses .now)) b) (none-next b)), omega arith, λ e. none-next 0, the-pre .4)
 
 slice-read-stream : tie.Need-slice-read-stream
-slice-read-stream c = search needs
+slice-read-stream c = omega arith
 
 mul-start : tie.Need-mul-start
-mul-start c = search needs
+mul-start c = omega arith
 
 slice-read-start : tie.Need-slice-read-start
-slice-read-start c = search needs
+slice-read-start c = omega arith
 
 mul-stamps : tie.Need-mul-stamps
-mul-stamps c = search needs
+mul-stamps c = omega arith
 
 slice-read-stamps : tie.Need-slice-read-stamps
-slice-read-stamps c = search needs
+slice-read-stamps c = omega arith
 
 first-missing-requires : tie.Need-first-missing-requires
 first-missing-requires c κs =
@@ -86,7 +85,7 @@ add-recounted : tie.Need-add-recounted
 add-recounted c = omega (arith, c .before .before .before .before .before .before .before .before .before .before .before .before .before .before .before .before .before .before .before .before .before .before .before .before .before .before .before .before .before .before .before .before .before .before .before .before .before .before .before .pre .3)
 
 recounted-requires : tie.Need-recounted-requires
-recounted-requires c κs = search needs
+recounted-requires c κs = omega arith
 
 release-all-requires : tie.Need-release-all-requires
 release-all-requires c κs =
@@ -105,22 +104,22 @@ same-length-7 : tie.Need-same-length-7
 same-length-7 c = omega (arith, c .before .before .before .before .before .before .before .before .before .before .before .before .before .before .before .before .before .before .before .before .before .before .before .before .before .before .before .before .before .before .before .before .rebuild-at .kept)
 
 same-length-8 : tie.Need-same-length-8
-same-length-8 c = search needs
+same-length-8 c = omega arith
 
 same-length-9 : tie.Need-same-length-9
-same-length-9 c = search needs
+same-length-9 c = omega arith
 
 same-length-10 : tie.Need-same-length-10
-same-length-10 c = search needs
+same-length-10 c = omega arith
 
 same-length-11 : tie.Need-same-length-11
-same-length-11 c = search needs
+same-length-11 c = omega arith
 
 same-length-12 : tie.Need-same-length-12
-same-length-12 c = search needs
+same-length-12 c = omega arith
 
 same-length-13 : tie.Need-same-length-13
-same-length-13 c = search needs
+same-length-13 c = omega arith
 
 returns-2 : tie.Need-returns-2
 returns-2 c =

@@ -1,8 +1,7 @@
 -- `settle::rebuild_at` meets its contract: the recovery goes by way of a buffer, where the rows are added up. Assumes nothing.
 use native.Mathlib.Omega.{arith}
-use mathlib.Core.Path.{_≡_, refl, ap, _∙_}
-use mathlib.Core.List.{List}
-use Prim.Native.Nat.{ℕ, _*_}
+use mathlib.Core.Path.{refl, ap, _∙_}
+use Prim.Native.Nat.{_*_}
 use lib.ListN.{set, replicate}
 use Rattle.parity.specs.Rows.{marked}
 use Rattle.window.specs.Plain.{groupOf}
@@ -12,13 +11,13 @@ use Rattle.settle.proofs.rebuild_at.Statement.{statement}
 use Rattle.settle.proofs.rebuild_at.Tie as tie
 
 slice-aggregate-copy-at : tie.Need-slice-aggregate-copy-at
-slice-aggregate-copy-at c = search needs
+slice-aggregate-copy-at c = omega arith
 
 copy-at-requires : tie.Need-copy-at-requires
-copy-at-requires c κs = search needs
+copy-at-requires c κs = omega arith
 
 slice-aggregate-add-up : tie.Need-slice-aggregate-add-up
-slice-aggregate-add-up c = search needs
+slice-aggregate-add-up c = omega arith
 
 add-up-requires : tie.Need-add-up-requires
 add-up-requires c κs = search needs
@@ -27,22 +26,22 @@ mul-copy-at : tie.Need-mul-copy-at
 mul-copy-at c = omega (arith, row-ends (c .before .before .before .before .before .before .before .before .before .before .before .before .before .before .args .i) (c .before .before .before .before .before .before .before .before .before .before .before .before .before .before .args .w .n) (c .before .before .before .before .before .before .before .before .before .before .before .before .before .before .args .w .p) _ (c .before .before .before .before .before .before .before .before .before .before .before .before .before .before .pre .2) (c .before .before .before .before .before .before .before .before .before .before .before .before .before .before .pre .4))
 
 slice-aggregate-copy-at-2 : tie.Need-slice-aggregate-copy-at-2
-slice-aggregate-copy-at-2 c = search needs
+slice-aggregate-copy-at-2 c = omega arith
 
 copy-at-requires-2 : tie.Need-copy-at-requires-2
 copy-at-requires-2 c κs = (row-ends (c .before .before .before .before .before .before .before .before .before .before .before .before .before .before .before .args .i) (c .before .before .before .before .before .before .before .before .before .before .before .before .before .before .before .args .w .n) (c .before .before .before .before .before .before .before .before .before .before .before .before .before .before .before .args .w .p) _ (c .before .before .before .before .before .before .before .before .before .before .before .before .before .before .before .pre .2) (c .before .before .before .before .before .before .before .before .before .before .before .before .before .before .before .pre .4), omega (arith, c .before .before .before .add-up .kept, c .before .before .before .before .before .before .before .before .before .copy-at .kept, c .before .before .before .before .before .before .before .before .before .before .before .before .before .before .before .pre .0 .p-high))
 
 mul-timestamps : tie.Need-mul-timestamps
-mul-timestamps c = search needs
+mul-timestamps c = omega arith
 
 slice-write-timestamps : tie.Need-slice-write-timestamps
-slice-write-timestamps c = search needs
+slice-write-timestamps c = omega arith
 
 slice-write-marks : tie.Need-slice-write-marks
-slice-write-marks c = search needs
+slice-write-marks c = omega arith
 
 same-length : tie.Need-same-length
-same-length c = search needs
+same-length c = omega arith
 
 same-length-2 : tie.Need-same-length-2
 same-length-2 c = search needs

@@ -11,7 +11,6 @@ use Rattle.settle.specs.Counts.{Counted}
 use Rattle.settle.specs.Settle.{releaseSpent, releaseBelow, releaseAll}
 use Rattle.settle.proofs.Release.{asked-all, recount-twice}
 use Rattle.settle.proofs.Counts.{counted-on}
-use borrow.Author.Needs.{needs}
 use Rattle.settle.proofs.release_all.Statement.{statement}
 use Rattle.settle.proofs.release_all.Tie as tie
 
@@ -36,7 +35,7 @@ add-r : tie.Need-add-r Inv-loop μ-loop
 add-r c = omega (arith, c .before .before .before .before .before .before .before .before .before .before .before .before .before .before .before .before .loop-test .taken, c .before .before .before .before .before .before .before .before .before .before .before .before .before .before .before .before .before .loop .inv .1, c .before .before .before .before .before .before .before .before .before .before .before .before .before .before .before .before .before .before .before .before .before .before .before .before .good)
 
 loop-less : tie.Need-loop-less Inv-loop μ-loop
-loop-less c = search needs
+loop-less c = omega arith
 
 loop-again : tie.Need-loop-again Inv-loop μ-loop
 loop-again c =
@@ -55,19 +54,19 @@ loop-again c =
     )
 
 same-length : tie.Need-same-length Inv-loop μ-loop
-same-length c = search needs
+same-length c = omega arith
 
 same-length-2 : tie.Need-same-length-2 Inv-loop μ-loop
-same-length-2 c = search needs
+same-length-2 c = omega arith
 
 same-length-3 : tie.Need-same-length-3 Inv-loop μ-loop
-same-length-3 c = search needs
+same-length-3 c = omega arith
 
 same-length-4 : tie.Need-same-length-4 Inv-loop μ-loop
-same-length-4 c = search needs
+same-length-4 c = omega arith
 
 same-length-5 : tie.Need-same-length-5 Inv-loop μ-loop
-same-length-5 c = search needs
+same-length-5 c = omega arith
 
 returns : tie.Need-returns Inv-loop μ-loop
 unfolding releaseAll

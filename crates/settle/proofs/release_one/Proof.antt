@@ -10,13 +10,13 @@ use Rattle.settle.proofs.release_one.Statement.{statement}
 use Rattle.settle.proofs.release_one.Tie as tie
 
 slice-read-if1 : tie.Need-slice-read-if1
-slice-read-if1 c = search needs
+slice-read-if1 c = omega arith
 
 returns : tie.Need-returns
 returns c = (refl, λ m t k b h. free _ (c .before .before .before .before .before .before .before .before .args .r) (c .if1 .taken))
 
 shared-slice-read-if2 : tie.Need-shared-slice-read-if2
-shared-slice-read-if2 c = search needs
+shared-slice-read-if2 c = omega arith
 
 returns-2 : tie.Need-returns-2
 returns-2 c =
@@ -36,31 +36,31 @@ zero-at-requires c κs =
     row-ends (the-args .r) (the-args .w .k) (the-args .w .p) _ (the-pre .0) (the-pre .1)
 
 slice-write-streams : tie.Need-slice-write-streams
-slice-write-streams c = search needs
+slice-write-streams c = omega arith
 
 mul-snbases : tie.Need-mul-snbases
-mul-snbases c = search needs
+mul-snbases c = omega arith
 
 slice-write-snbases : tie.Need-slice-write-snbases
-slice-write-snbases c = search needs
+slice-write-snbases c = omega arith
 
 mul-recoveries : tie.Need-mul-recoveries
-mul-recoveries c = search needs
+mul-recoveries c = omega arith
 
 slice-write-recoveries : tie.Need-slice-write-recoveries
-slice-write-recoveries c = search needs
+slice-write-recoveries c = omega arith
 
 slice-write-uses : tie.Need-slice-write-uses
-slice-write-uses c = search needs
+slice-write-uses c = omega arith
 
 one-less-requires : tie.Need-one-less-requires
-one-less-requires c κs = search needs
+one-less-requires c κs = omega arith
 
 recounted-requires : tie.Need-recounted-requires
-recounted-requires c κs = search needs
+recounted-requires c κs = omega arith
 
 same-length : tie.Need-same-length
-same-length c = search needs
+same-length c = omega arith
 
 same-length-2 : tie.Need-same-length-2
 same-length-2 c = search needs

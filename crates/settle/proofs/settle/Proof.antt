@@ -16,13 +16,13 @@ returns c =
     going-done (the-args .w) (stored (the-args .media .now) (the-args .timestamps .now) (the-args .marks .now) (the-args .parity .now) (the-args .streams .now) (the-args .snbases .now) (the-args .recoveries .now) (the-args .uses .now)) (the-args .rebuilt) (the-args .w) (stored (the-args .media .now) (the-args .timestamps .now) (the-args .marks .now) (the-args .parity .now) (the-args .streams .now) (the-args .snbases .now) (the-args .recoveries .now) (the-args .uses .now)) (the-args .rebuilt) (the-args .w .«in_use») (going-start (the-args .w) (stored (the-args .media .now) (the-args .timestamps .now) (the-args .marks .now) (the-args .parity .now) (the-args .streams .now) (the-args .snbases .now) (the-args .recoveries .now) (the-args .uses .now)) (the-args .rebuilt) (the-pre .0) (the-pre .3) (the-pre .4)) (omega (arith, c .if1 .taken))
 
 slice-aggregate-count-all : tie.Need-slice-aggregate-count-all
-slice-aggregate-count-all c = search needs
+slice-aggregate-count-all c = omega arith
 
 count-all-requires : tie.Need-count-all-requires
 count-all-requires c κs = search needs
 
 slice-aggregate-all-rounds : tie.Need-slice-aggregate-all-rounds
-slice-aggregate-all-rounds c = search needs
+slice-aggregate-all-rounds c = omega arith
 
 all-rounds-requires : tie.Need-all-rounds-requires
 all-rounds-requires c κs =
@@ -30,28 +30,28 @@ all-rounds-requires c κs =
     (the-pre .0, the-pre .1, the-pre .2, the-pre .3, the-pre .4, c .before .before .before .before .before .before .before .before .before .before .count-all .ensures)
 
 same-length : tie.Need-same-length
-same-length c = search needs
+same-length c = omega arith
 
 same-length-2 : tie.Need-same-length-2
-same-length-2 c = search needs
+same-length-2 c = omega arith
 
 same-length-3 : tie.Need-same-length-3
-same-length-3 c = search needs
+same-length-3 c = omega arith
 
 same-length-4 : tie.Need-same-length-4
-same-length-4 c = search needs
+same-length-4 c = omega arith
 
 same-length-5 : tie.Need-same-length-5
-same-length-5 c = search needs
+same-length-5 c = omega arith
 
 same-length-6 : tie.Need-same-length-6
-same-length-6 c = search needs
+same-length-6 c = omega arith
 
 same-length-7 : tie.Need-same-length-7
-same-length-7 c = search needs
+same-length-7 c = omega arith
 
 same-length-8 : tie.Need-same-length-8
-same-length-8 c = search needs
+same-length-8 c = omega arith
 
 returns-2 : tie.Need-returns-2
 returns-2 c = c .before .before .before .before .before .before .before .before .before .before .before .before .before .before .before .before .before .all-rounds .ensures

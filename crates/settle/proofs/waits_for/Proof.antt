@@ -8,36 +8,35 @@ use borrow.Author.Tests.{eq-eqb}
 use Rattle.sequence.specs.Lists.{count}
 use Rattle.window.specs.Plain.{shape-of}
 use Rattle.settle.proofs.Members.{line-group}
-use borrow.Author.Needs.{needs}
 use Rattle.settle.proofs.waits_for.Statement.{statement}
 use Rattle.settle.proofs.waits_for.Tie as tie
 
 shared-slice-read-if1 : tie.Need-shared-slice-read-if1
-shared-slice-read-if1 c = search needs
+shared-slice-read-if1 c = omega arith
 
 returns : tie.Need-returns
 returns c = λ u. absurd (c .if1 .taken u)
 
 shared-slice-read-stream : tie.Need-shared-slice-read-stream
-shared-slice-read-stream c = search needs
+shared-slice-read-stream c = omega arith
 
 mul-position : tie.Need-mul-position
-mul-position c = search needs
+mul-position c = omega arith
 
 shared-slice-read-position : tie.Need-shared-slice-read-position
-shared-slice-read-position c = search needs
+shared-slice-read-position c = omega arith
 
 position-requires : tie.Need-position-requires
-position-requires c κs = search needs
+position-requires c κs = omega arith
 
 cast-at : tie.Need-cast-at
-cast-at c = search needs
+cast-at c = omega arith
 
 offset-of-requires : tie.Need-offset-of-requires
-offset-of-requires c κs = search needs
+offset-of-requires c κs = omega arith
 
 na-of-requires : tie.Need-na-of-requires
-na-of-requires c κs = search needs
+na-of-requires c κs = omega arith
 
 on-line-requires : tie.Need-on-line-requires
 on-line-requires c κs =
