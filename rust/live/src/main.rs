@@ -1,0 +1,40 @@
+//! The library on live traffic, over UDP on loopback. `tools/live` runs it with FFmpeg, GStreamer and tshark.
+//!
+//!     live receive CAPTURE L D SEED PORT
+//!     live send CAPTURE L D SEED PORT BACK
+//!     live dissect CAPTURE L D PORT PCAP FIELDS
+//!
+//! Media, columns and rows go to PORT, PORT + 2 and PORT + 4 of 127.0.0.1. CAPTURE is in the form that captures/README.md gives.
+mod dissect;
+mod receive;
+mod send;
+mod traffic;
+
+use std::{env, error::Error, process::ExitCode};
+use traffic::Profile;
+
+/// Payload bytes of every media packet: seven transport packets.
+const PAYLOAD: usize = 1316;
+
+type Outcome = Result<(), Box<dyn Error>>;
+
+fn run(args: &[&str]) -> Outcome {
+    let profile = |l: &str, d: &str| -> Result<Profile, Box<dyn Error>> { Ok(Profile { l: l.parse()?, d: d.parse()? }) };
+    match *args {
+        ["receive", capture, l, d, seed, port] => receive::run(capture, profile(l, d)?, seed.parse()?, port.parse()?),
+        ["send", capture, l, d, seed, port, back] => send::run(capture, profile(l, d)?, seed.parse()?, port.parse()?, back.parse()?),
+        ["dissect", capture, l, d, port, pcap, fields] => dissect::run(capture, profile(l, d)?, port.parse()?, pcap, fields),
+        _ => Err("usage: live receive|send|dissect ..., as the head of rust/live/src/main.rs says".into()),
+    }
+}
+
+fn main() -> ExitCode {
+    let args: Vec<String> = env::args().skip(1).collect();
+    match run(&args.iter().map(String::as_str).collect::<Vec<_>>()) {
+        Ok(()) => ExitCode::SUCCESS,
+        Err(e) => {
+            eprintln!("live: {e}");
+            ExitCode::FAILURE
+        }
+    }
+}

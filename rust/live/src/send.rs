@@ -1,0 +1,116 @@
+//! Writes the parity of media with the library, sends media and parity with some of the media dropped, and compares what a
+//! decoder sends back with what was sent.
+use crate::traffic::{beyond_reach, dropped, group, media_of_capture, number, timestamp, Entry, Kind, Profile};
+use crate::{Outcome, PAYLOAD};
+use congaveil::{Outer, Receiver, Refusal, SetUp, PARITY_HEADER};
+use std::collections::{BTreeMap, BTreeSet, VecDeque};
+use std::net::{Ipv4Addr, UdpSocket};
+use std::{error::Error, io, thread, time::Duration};
+
+/// The whole matrices of a capture's media.
+pub fn whole_matrices(capture: &str, profile: Profile) -> Result<Vec<Vec<u8>>, Box<dyn Error>> {
+    let mut media = media_of_capture(capture)?;
+    media.truncate(media.len() / profile.matrix() * profile.matrix());
+    match media.first() {
+        Some(_) => Ok(media),
+        None => Err("the capture has no whole matrix".into()),
+    }
+}
+
+/// Media and parity in the order of sending: a row's parity after the row, a column's during the next matrix, one after every
+/// D packets. Each parity stream counts its own numbers; a parity packet has the timestamp of the last packet of its row or matrix.
+pub fn with_parity(media: &[Vec<u8>], profile: Profile) -> Result<Vec<Entry>, Refusal> {
+    let Profile { l, d } = profile;
+    let (mut entries, mut waiting, mut rows, mut columns) = (Vec::new(), VecDeque::new(), 0u16, 0u16);
+    for matrix in media.chunks(profile.matrix()) {
+        let base = number(&matrix[0]);
+        let mut window = Receiver::open(SetUp { base, l, d, payload: PAYLOAD, positions: profile.matrix(), records: 1, ssrc: 0 })?;
+        for (i, packet) in matrix.iter().enumerate() {
+            window.media(packet)?;
+            entries.push(Entry { kind: Kind::Media, datagram: packet.clone() });
+            if l >= 4 && i % l == l - 1 {
+                let outer = Outer { sequence: rows, timestamp: timestamp(packet), ssrc: 0 };
+                let mut datagram = vec![0; PARITY_HEADER + PAYLOAD];
+                window.write_row(number(&matrix[i + 1 - l]), outer, &mut datagram)?;
+                entries.push(Entry { kind: Kind::Row, datagram });
+                rows = rows.wrapping_add(1);
+            }
+            if i % d == d - 1 {
+                entries.extend(waiting.pop_front());
+            }
+        }
+        for packet in &matrix[..l] {
+            let outer = Outer { sequence: columns, timestamp: timestamp(&matrix[profile.matrix() - 1]), ssrc: 0 };
+            let mut datagram = vec![0; PARITY_HEADER + PAYLOAD];
+            window.write_column(number(packet), outer, &mut datagram)?;
+            waiting.push_back(Entry { kind: Kind::Column, datagram });
+            columns = columns.wrapping_add(1);
+        }
+    }
+    entries.extend(waiting);
+    Ok(entries)
+}
+
+/// Everything that comes in until two seconds pass without a datagram.
+fn collect(socket: UdpSocket) -> io::Result<Vec<Vec<u8>>> {
+    socket.set_read_timeout(Some(Duration::from_secs(2)))?;
+    let (mut buffer, mut datagrams) = ([0; 2048], Vec::new());
+    loop {
+        match socket.recv(&mut buffer) {
+            Ok(length) => datagrams.push(buffer[..length].to_vec()),
+            Err(e) if matches!(e.kind(), io::ErrorKind::WouldBlock | io::ErrorKind::TimedOut) => return Ok(datagrams),
+            Err(e) => return Err(e),
+        }
+    }
+}
+
+pub fn run(capture: &str, profile: Profile, seed: u64, port: u16, back: u16) -> Outcome {
+    let media = whole_matrices(capture, profile)?;
+    let first = number(&media[0]);
+    let entries = with_parity(&media, profile)?;
+    let groups: Vec<Vec<u16>> = entries.iter().filter(|e| e.kind != Kind::Media).map(|e| group(&e.datagram, first)).collect();
+    let lost: BTreeSet<u16> = (0..media.len() as u16).filter(|p| dropped(*p, profile, seed)).collect();
+    let reach = beyond_reach(&lost, &groups);
+
+    let socket = UdpSocket::bind((Ipv4Addr::LOCALHOST, back))?;
+    let collector = thread::spawn(|| collect(socket));
+    let out = UdpSocket::bind((Ipv4Addr::LOCALHOST, 0))?;
+    for Entry { kind, datagram } in &entries {
+        if *kind != Kind::Media || !lost.contains(&number(datagram).wrapping_sub(first)) {
+            out.send_to(datagram, (Ipv4Addr::LOCALHOST, kind.port(port)))?;
+            thread::sleep(Duration::from_millis(1));
+        }
+    }
+    let came = collector.join().expect("the collector ended")?;
+
+    // A recovered packet has an SSRC of the decoder's own choice (GStreamer: 0); everything else is the sender's. GStreamer reads each
+    // port on a thread of its own: a packet that it recovers because parity overtook it comes back twice, which is no fault.
+    let same = |a: &[u8], b: &[u8]| a.len() == b.len() && a[..8] == b[..8] && a[12..] == b[12..];
+    let mut back: BTreeMap<u16, Vec<u8>> = BTreeMap::new();
+    let (mut strange, mut twice) = (0, 0);
+    for datagram in came {
+        let position = number(&datagram).wrapping_sub(first);
+        match media.get(position as usize) {
+            Some(sent) if same(sent, &datagram) => twice += back.insert(position, datagram).is_some() as usize,
+            _ => strange += 1,
+        }
+    }
+    let passed = (0..media.len() as u16).filter(|p| !lost.contains(p) && back.contains_key(p)).count();
+    let recovered = lost.iter().filter(|p| back.contains_key(p)).count();
+    let missing: BTreeSet<u16> = lost.iter().copied().filter(|p| !back.contains_key(p)).collect();
+
+    let last = first.wrapping_add(media.len() as u16).wrapping_sub(1);
+    println!("  sent {} media, numbers {first} to {last}, less {} dropped, and {} parity", media.len(), lost.len(), groups.len());
+    println!("  came back: {passed} passed on, {recovered} recovered; still missing {}", missing.len());
+    println!("  beyond the reach of the parity: {}", reach.len());
+    println!("  came back and not equal to the one sent: {strange}; came back twice: {twice}");
+    let checks = [
+        (strange == 0, "a packet that came back is not the one sent"),
+        (passed + lost.len() == media.len(), "media that were sent did not come back"),
+        (recovered > 0 && missing == reach, "not exactly the packets beyond the parity's reach are missing"),
+    ];
+    match checks.iter().find(|(holds, _)| !holds) {
+        Some((_, words)) => Err((*words).into()),
+        None => Ok(()),
+    }
+}

@@ -1,0 +1,256 @@
+//! The library's C face, as include/congaveil.h declares it, and thin safe wrappers around the seven calls.
+
+use crate::model::{Answer, Record, Stamp, Window};
+
+#[repr(C)]
+#[derive(Clone, Copy)]
+struct CWindow {
+    base: u16,
+    ssrc: u32,
+    l: usize,
+    d: usize,
+    p: usize,
+    n: usize,
+    k: usize,
+    present: usize,
+    in_use: usize,
+}
+
+#[repr(C)]
+struct CRecord {
+    stream: u8,
+    snbase: u16,
+    timestamp_recovery: u32,
+    in_use: u8,
+}
+
+#[repr(C)]
+struct CAnswer {
+    number: u32,
+    count: usize,
+    window: CWindow,
+}
+
+/// A record as the bytes it is lent in, gaps between the fields included.
+#[repr(C, align(4))]
+#[derive(Clone, Copy, Debug, PartialEq, Eq)]
+pub struct RawRecord(pub [u8; 12]);
+
+const _: () = assert!(std::mem::size_of::<CRecord>() == 12 && std::mem::align_of::<CRecord>() == 4);
+const _: () = assert!(std::mem::offset_of!(CRecord, stream) == 0 && std::mem::offset_of!(CRecord, snbase) == 2);
+const _: () = assert!(std::mem::offset_of!(CRecord, timestamp_recovery) == 4 && std::mem::offset_of!(CRecord, in_use) == 8);
+
+impl RawRecord {
+    /// The gaps keep what they have.
+    pub fn set(&mut self, record: Record) {
+        self.0[0] = record.stream;
+        self.0[2..4].copy_from_slice(&record.snbase.to_ne_bytes());
+        self.0[4..8].copy_from_slice(&record.timestamp_recovery.to_ne_bytes());
+        self.0[8] = record.in_use;
+    }
+
+    pub fn get(&self) -> Record {
+        let b = &self.0;
+        Record {
+            stream: b[0],
+            snbase: u16::from_ne_bytes([b[2], b[3]]),
+            timestamp_recovery: u32::from_ne_bytes([b[4], b[5], b[6], b[7]]),
+            in_use: b[8],
+        }
+    }
+}
+
+/// Declares a call with the five parts of the store between what comes before and what comes after.
+macro_rules! declare {
+    ($name:ident, [$($before:ident: $b:ty),*], $bytes:ty, $words:ty, $records:ty, [$($after:ident: $a:ty),*]) => {
+        extern "C" {
+            fn $name(
+                $($before: $b,)*
+                media: $bytes, media_len: usize, timestamps: $words, timestamps_len: usize,
+                marks: $bytes, marks_len: usize, parity: $bytes, parity_len: usize,
+                records: $records, records_len: usize
+                $(, $after: $a)*
+            ) -> CAnswer;
+        }
+    };
+}
+
+declare!(cgv_open, [base: u16, l: usize, d: usize, p: usize, n: usize, k: usize, ssrc: u32], *mut u8, *mut u32, *mut CRecord, []);
+declare!(cgv_media, [w: CWindow, datagram: *const u8, len: usize], *mut u8, *mut u32, *mut CRecord, []);
+declare!(cgv_column, [w: CWindow, datagram: *const u8, len: usize], *mut u8, *mut u32, *mut CRecord, []);
+declare!(cgv_row, [w: CWindow, datagram: *const u8, len: usize], *mut u8, *mut u32, *mut CRecord, []);
+declare!(cgv_read, [w: CWindow, number: u16], *const u8, *const u32, *const CRecord, [out: *mut u8, out_len: usize]);
+declare!(cgv_write_column, [w: CWindow, snbase: u16, sequence: u16, timestamp: u32, ssrc: u32],
+         *const u8, *const u32, *const CRecord, [out: *mut u8, out_len: usize]);
+declare!(cgv_write_row, [w: CWindow, snbase: u16, sequence: u16, timestamp: u32, ssrc: u32],
+         *const u8, *const u32, *const CRecord, [out: *mut u8, out_len: usize]);
+
+/// The lent store. A slice's pointer is valid and not null also where it is empty.
+pub struct Lent<'a> {
+    pub media: &'a mut [u8],
+    pub timestamps: &'a mut [u32],
+    pub marks: &'a mut [u8],
+    pub parity: &'a mut [u8],
+    pub records: &'a mut [RawRecord],
+}
+
+fn to_c(w: &Window) -> CWindow {
+    CWindow {
+        base: w.base,
+        ssrc: w.ssrc,
+        l: w.l as usize,
+        d: w.d as usize,
+        p: w.p as usize,
+        n: w.n as usize,
+        k: w.k as usize,
+        present: w.present as usize,
+        in_use: w.in_use as usize,
+    }
+}
+
+fn from_c(answer: CAnswer) -> Answer {
+    let w = answer.window;
+    Answer {
+        number: answer.number,
+        count: answer.count as u64,
+        window: Window {
+            base: w.base,
+            ssrc: w.ssrc,
+            l: w.l as u64,
+            d: w.d as u64,
+            p: w.p as u64,
+            n: w.n as u64,
+            k: w.k as u64,
+            present: w.present as u64,
+            in_use: w.in_use as u64,
+        },
+    }
+}
+
+/// Calls with the five parts. Pointers and lengths come from slices that are borrowed for the call and do not overlap.
+macro_rules! with_store {
+    ($name:ident, [$($before:expr),*], $s:expr, mut) => {
+        from_c(unsafe {
+            $name($($before,)* $s.media.as_mut_ptr(), $s.media.len(), $s.timestamps.as_mut_ptr(), $s.timestamps.len(),
+                $s.marks.as_mut_ptr(), $s.marks.len(), $s.parity.as_mut_ptr(), $s.parity.len(),
+                $s.records.as_mut_ptr().cast(), $s.records.len())
+        })
+    };
+    ($name:ident, [$($before:expr),*], $s:expr, $out:expr) => {
+        from_c(unsafe {
+            $name($($before,)* $s.media.as_ptr(), $s.media.len(), $s.timestamps.as_ptr(), $s.timestamps.len(),
+                $s.marks.as_ptr(), $s.marks.len(), $s.parity.as_ptr(), $s.parity.len(),
+                $s.records.as_ptr().cast(), $s.records.len(), $out.as_mut_ptr(), $out.len())
+        })
+    };
+}
+
+/// Opens the window that the value names; its two counts are not passed.
+pub fn open(asked: Window, s: &mut Lent) -> Answer {
+    let w = to_c(&asked);
+    with_store!(cgv_open, [w.base, w.l, w.d, w.p, w.n, w.k, w.ssrc], s, mut)
+}
+
+pub fn media(w: Window, datagram: &[u8], s: &mut Lent) -> Answer {
+    with_store!(cgv_media, [to_c(&w), datagram.as_ptr(), datagram.len()], s, mut)
+}
+
+pub fn column(w: Window, datagram: &[u8], s: &mut Lent) -> Answer {
+    with_store!(cgv_column, [to_c(&w), datagram.as_ptr(), datagram.len()], s, mut)
+}
+
+pub fn row(w: Window, datagram: &[u8], s: &mut Lent) -> Answer {
+    with_store!(cgv_row, [to_c(&w), datagram.as_ptr(), datagram.len()], s, mut)
+}
+
+pub fn read(w: Window, number: u16, s: &Lent, out: &mut [u8]) -> Answer {
+    with_store!(cgv_read, [to_c(&w), number], s, out)
+}
+
+pub fn write_column(w: Window, snbase: u16, stamp: Stamp, s: &Lent, out: &mut [u8]) -> Answer {
+    with_store!(cgv_write_column, [to_c(&w), snbase, stamp.sequence, stamp.timestamp, stamp.ssrc], s, out)
+}
+
+pub fn write_row(w: Window, snbase: u16, stamp: Stamp, s: &Lent, out: &mut [u8]) -> Answer {
+    with_store!(cgv_write_row, [to_c(&w), snbase, stamp.sequence, stamp.timestamp, stamp.ssrc], s, out)
+}
+
+/// A window of the library with a store of its own, for the parts that look at the library alone.
+pub struct Receiver {
+    pub window: Window,
+    pub media: Vec<u8>,
+    pub timestamps: Vec<u32>,
+    pub marks: Vec<u8>,
+    pub parity: Vec<u8>,
+    pub records: Vec<RawRecord>,
+}
+
+impl Receiver {
+    /// Opens a window in a store full of old bytes.
+    pub fn open(asked: Window) -> Result<Receiver, String> {
+        let (n, k, p) = (asked.n as usize, asked.k as usize, asked.p as usize);
+        let mut receiver = Receiver {
+            window: asked,
+            media: vec![0xA5; n * p],
+            timestamps: vec![0xA5A5; n],
+            marks: vec![0xA5; n],
+            parity: vec![0xA5; k * p],
+            records: vec![RawRecord([0xA5; 12]); k],
+        };
+        let answer = open(asked, &mut receiver.lend());
+        if answer.number != 0 {
+            return Err(format!("opening {asked:?} was refused with {}", answer.number));
+        }
+        receiver.window = answer.window;
+        Ok(receiver)
+    }
+
+    fn lend(&mut self) -> Lent<'_> {
+        Lent {
+            media: &mut self.media,
+            timestamps: &mut self.timestamps,
+            marks: &mut self.marks,
+            parity: &mut self.parity,
+            records: &mut self.records,
+        }
+    }
+
+    /// Offers a datagram on a port: 1 media, 2 column parity, 3 row parity.
+    pub fn offer(&mut self, port: u8, datagram: &[u8]) -> Answer {
+        let w = self.window;
+        let answer = match port {
+            1 => media(w, datagram, &mut self.lend()),
+            2 => column(w, datagram, &mut self.lend()),
+            _ => row(w, datagram, &mut self.lend()),
+        };
+        self.window = answer.window;
+        answer
+    }
+
+    /// A packet as it is read out, or the number of the refusal.
+    pub fn read(&mut self, number: u16) -> Result<Vec<u8>, u32> {
+        let w = self.window;
+        let mut out = vec![0x5A; 12 + w.p as usize];
+        let answer = read(w, number, &self.lend(), &mut out);
+        if answer.number == 0 {
+            Ok(out)
+        } else {
+            Err(answer.number)
+        }
+    }
+
+    /// The parity packet of a group, on port 2 or 3, or the number of the refusal.
+    pub fn write(&mut self, port: u8, snbase: u16, stamp: Stamp) -> Result<Vec<u8>, u32> {
+        let w = self.window;
+        let mut out = vec![0x5A; 28 + w.p as usize];
+        let answer = match port {
+            2 => write_column(w, snbase, stamp, &self.lend(), &mut out),
+            _ => write_row(w, snbase, stamp, &self.lend(), &mut out),
+        };
+        if answer.number == 0 {
+            Ok(out)
+        } else {
+            Err(answer.number)
+        }
+    }
+}

@@ -1,0 +1,593 @@
+//! The second program: document 01 read once more and written down in the plainest way.
+//!
+//! Nothing here is clever. Every call looks at everything afresh, all arithmetic is in 64 bits, and a group is a list of
+//! numbers. Judging only reads the store; a call writes to it after the last refusal has been ruled out.
+
+/// The stream number of a column, as the D bit has it.
+pub const COLUMN: u8 = 0;
+/// The stream number of a row.
+pub const ROW: u8 = 1;
+
+/// The window value: the set-up numbers and the two counts.
+#[derive(Clone, Copy, Debug, Default, PartialEq, Eq)]
+pub struct Window {
+    pub base: u16,
+    pub ssrc: u32,
+    pub l: u64,
+    pub d: u64,
+    pub p: u64,
+    pub n: u64,
+    pub k: u64,
+    pub present: u64,
+    pub in_use: u64,
+}
+
+/// A parity packet in hand, but for its payload.
+#[derive(Clone, Copy, Debug, Default, PartialEq, Eq)]
+pub struct Record {
+    pub stream: u8,
+    pub snbase: u16,
+    pub timestamp_recovery: u32,
+    pub in_use: u8,
+}
+
+/// The lent store. Each part may be longer or shorter than the window needs.
+pub struct Store<'a> {
+    pub media: &'a mut [u8],
+    pub timestamps: &'a mut [u32],
+    pub marks: &'a mut [u8],
+    pub parity: &'a mut [u8],
+    pub records: &'a mut [Record],
+}
+
+/// What every call gives back.
+#[derive(Clone, Copy, Debug, PartialEq, Eq)]
+pub struct Answer {
+    pub number: u32,
+    pub count: u64,
+    pub window: Window,
+}
+
+/// What the sender of a parity packet chooses freely.
+#[derive(Clone, Copy, Debug)]
+pub struct Stamp {
+    pub sequence: u16,
+    pub timestamp: u32,
+    pub ssrc: u32,
+}
+
+fn refuse(number: u32, window: Window) -> Answer {
+    Answer { number, count: 0, window }
+}
+
+/// A refusal if the condition holds. Chained with `?`, the first that applies is given.
+fn no_if(condition: bool, number: u32) -> Result<(), u32> {
+    if condition {
+        Err(number)
+    } else {
+        Ok(())
+    }
+}
+
+// ---- numbers, positions and groups ----
+
+/// The distance of a number ahead of the base, with 16-bit wrap.
+fn position(w: &Window, number: u16) -> u64 {
+    (u64::from(number) + 65_536 - u64::from(w.base)) % 65_536
+}
+
+fn offset(w: &Window, stream: u8) -> u64 {
+    if stream == COLUMN {
+        w.l
+    } else {
+        1
+    }
+}
+
+fn na(w: &Window, stream: u8) -> u64 {
+    if stream == COLUMN {
+        w.d
+    } else {
+        w.l
+    }
+}
+
+/// The numbers of a group.
+fn group(w: &Window, stream: u8, snbase: u16) -> Vec<u16> {
+    (0..na(w, stream)).map(|j| ((u64::from(snbase) + j * offset(w, stream)) % 65_536) as u16).collect()
+}
+
+/// The positions of a group, if all of them are in the window.
+fn places(w: &Window, stream: u8, snbase: u16) -> Option<Vec<usize>> {
+    let positions: Vec<u64> = group(w, stream, snbase).into_iter().map(|number| position(w, number)).collect();
+    if positions.iter().all(|&i| i < w.n) {
+        Some(positions.into_iter().map(|i| i as usize).collect())
+    } else {
+        None
+    }
+}
+
+fn missing(s: &Store, places: &[usize]) -> Vec<usize> {
+    places.iter().copied().filter(|&i| s.marks[i] == 0).collect()
+}
+
+fn payload<'a>(part: &'a [u8], w: &Window, index: usize) -> &'a [u8] {
+    &part[index * w.p as usize..(index + 1) * w.p as usize]
+}
+
+fn payload_mut<'a>(part: &'a mut [u8], w: &Window, index: usize) -> &'a mut [u8] {
+    &mut part[index * w.p as usize..(index + 1) * w.p as usize]
+}
+
+fn xor_into(target: &mut [u8], other: &[u8]) {
+    for (a, b) in target.iter_mut().zip(other) {
+        *a ^= b;
+    }
+}
+
+// ---- refusals 1 to 5 ----
+
+fn check_numbers(w: &Window) -> Result<(), u32> {
+    no_if(w.l < 1 || w.l > 20 || w.d < 4 || w.d > 20 || w.l * w.d > 100, 1)?;
+    no_if(!(1..=7).any(|k| w.p == k * 188 || w.p == k * 204), 2)?;
+    no_if(w.n < w.l * w.d || w.n > 400 || w.k < 1 || w.k > 128, 3)
+}
+
+fn check_room(w: &Window, s: &Store) -> Result<(), u32> {
+    no_if((s.media.len() as u64) < w.n * w.p, 4)?;
+    no_if((s.timestamps.len() as u64) < w.n, 4)?;
+    no_if((s.marks.len() as u64) < w.n, 4)?;
+    no_if((s.parity.len() as u64) < w.k * w.p, 4)?;
+    no_if((s.records.len() as u64) < w.k, 4)
+}
+
+fn check_order(w: &Window, s: &Store) -> Result<(), u32> {
+    let marks = &s.marks[..w.n as usize];
+    let records = &s.records[..w.k as usize];
+    no_if(marks.iter().any(|&mark| mark > 1), 5)?;
+    no_if(records.iter().any(|record| record.in_use > 1), 5)?;
+    for (i, record) in records.iter().enumerate() {
+        if record.in_use == 0 {
+            continue;
+        }
+        no_if(record.stream != COLUMN && record.stream != ROW, 5)?;
+        no_if(record.stream == ROW && w.l < 4, 5)?;
+        match places(w, record.stream, record.snbase) {
+            None => return Err(5),
+            Some(places) => no_if(missing(s, &places).len() < 2, 5)?,
+        }
+        for other in &records[..i] {
+            no_if(other.in_use == 1 && other.stream == record.stream && other.snbase == record.snbase, 5)?;
+        }
+    }
+    no_if(w.present != marks.iter().filter(|&&mark| mark == 1).count() as u64, 5)?;
+    no_if(w.in_use != records.iter().filter(|record| record.in_use == 1).count() as u64, 5)
+}
+
+/// Refusals 1 to 5, with the length of the output and its need where the call has one.
+fn check_store(w: &Window, s: &Store, output: Option<(usize, u64)>) -> Result<(), u32> {
+    check_numbers(w)?;
+    check_room(w, s)?;
+    if let Some((len, headers)) = output {
+        no_if((len as u64) < headers + w.p, 4)?;
+    }
+    check_order(w, s)
+}
+
+// ---- opening ----
+
+/// Opens the window that the value names; its two counts are not looked at.
+pub fn open(asked: Window, s: &mut Store) -> Answer {
+    if let Err(number) = check_numbers(&asked).and_then(|()| check_room(&asked, s)) {
+        return refuse(number, Window::default());
+    }
+    let (n, k, p) = (asked.n as usize, asked.k as usize, asked.p as usize);
+    s.media[..n * p].fill(0);
+    s.timestamps[..n].fill(0);
+    s.marks[..n].fill(0);
+    s.parity[..k * p].fill(0);
+    s.records[..k].fill(Record::default());
+    Answer { number: 0, count: 0, window: Window { present: 0, in_use: 0, ..asked } }
+}
+
+// ---- the datagrams ----
+
+fn two(datagram: &[u8], at: usize) -> u16 {
+    u16::from_be_bytes([datagram[at], datagram[at + 1]])
+}
+
+fn four(datagram: &[u8], at: usize) -> u32 {
+    u32::from_be_bytes([datagram[at], datagram[at + 1], datagram[at + 2], datagram[at + 3]])
+}
+
+/// Refusals 6 to 9. The first byte is version (2 bits), P, X and CC (4 bits); the second is M and the payload type.
+fn check_rtp(w: &Window, datagram: &[u8], headers: u64, payload_type: u8) -> Result<(), u32> {
+    let len = datagram.len() as u64;
+    no_if(len < headers, 6)?;
+    no_if(datagram[0] >> 6 != 2, 7)?;
+    no_if(datagram[0] & 0x3F != 0, 7)?;
+    no_if(datagram[1] & 0x80 != 0, 7)?;
+    no_if(datagram[1] & 0x7F != payload_type, 8)?;
+    no_if(len != headers + w.p, 9)
+}
+
+fn judge_media(w: &Window, datagram: &[u8], s: &Store) -> Result<usize, u32> {
+    check_store(w, s, None)?;
+    check_rtp(w, datagram, 12, 33)?;
+    let i = position(w, two(datagram, 2));
+    no_if(i >= w.n, 13)?;
+    let i = i as usize;
+    if s.marks[i] == 1 {
+        let same = s.timestamps[i] == four(datagram, 4) && payload(s.media, w, i) == &datagram[12..];
+        return Err(if same { 14 } else { 15 });
+    }
+    Ok(i)
+}
+
+/// Answers the positions of the packet's group.
+fn judge_parity(w: &Window, stream: u8, datagram: &[u8], s: &Store) -> Result<Vec<usize>, u32> {
+    check_store(w, s, None)?;
+    check_rtp(w, datagram, 28, 96)?;
+    let header = &datagram[12..28];
+    no_if(header[4] & 0x80 == 0, 10)?;
+    no_if(header[5] != 0 || header[6] != 0 || header[7] != 0, 10)?;
+    no_if(header[12] & 0x80 != 0, 10)?;
+    no_if(header[12] & 0x3F != 0, 10)?;
+    no_if(header[15] != 0, 10)?;
+    let odd = na(w, stream) % 2 == 1;
+    no_if(header[4] & 0x7F != if odd { 33 } else { 0 }, 11)?;
+    no_if(u64::from(two(header, 2)) != if odd { w.p } else { 0 }, 11)?;
+    no_if((header[12] >> 6) & 1 != stream, 12)?;
+    no_if(u64::from(header[13]) != offset(w, stream), 12)?;
+    no_if(u64::from(header[14]) != na(w, stream), 12)?;
+    no_if(stream == ROW && w.l < 4, 12)?;
+    let snbase = two(header, 0);
+    let places = places(w, stream, snbase).ok_or(13u32)?;
+    for (i, record) in s.records[..w.k as usize].iter().enumerate() {
+        if record.in_use == 1 && record.stream == stream && record.snbase == snbase {
+            let same = record.timestamp_recovery == four(header, 8) && payload(s.parity, w, i) == &datagram[28..];
+            return Err(if same { 14 } else { 15 });
+        }
+    }
+    let free = s.records[..w.k as usize].iter().any(|record| record.in_use == 0);
+    no_if(missing(s, &places).len() >= 2 && !free, 16)?;
+    Ok(places)
+}
+
+// ---- rebuilding ----
+
+/// Rebuilds position `lost` of a group from its recovery fields and all the others.
+fn rebuild(w: &Window, s: &mut Store, places: &[usize], lost: usize, timestamp_recovery: u32, recovery: &[u8]) {
+    let mut timestamp = timestamp_recovery;
+    let mut bytes = recovery.to_vec();
+    for &i in places {
+        if i != lost {
+            timestamp ^= s.timestamps[i];
+            xor_into(&mut bytes, payload(s.media, w, i));
+        }
+    }
+    s.timestamps[lost] = timestamp;
+    payload_mut(s.media, w, lost).copy_from_slice(&bytes);
+    s.marks[lost] = 1;
+}
+
+/// Releases what is spent, lets the first of those that are ready rebuild, and begins again.
+/// Answers how many packets were rebuilt.
+fn settle(w: &Window, s: &mut Store) -> u64 {
+    let mut first: Option<(u64, u8, usize)> = None;
+    for i in 0..w.k as usize {
+        let record = s.records[i];
+        if record.in_use == 0 {
+            continue;
+        }
+        let places = places(w, record.stream, record.snbase).expect("a record in order");
+        match missing(s, &places).len() {
+            0 => {
+                s.records[i] = Record::default();
+                payload_mut(s.parity, w, i).fill(0);
+            }
+            1 => {
+                let candidate = (position(w, record.snbase), record.stream, i);
+                if first.is_none() || candidate < first.unwrap() {
+                    first = Some(candidate);
+                }
+            }
+            _ => {}
+        }
+    }
+    match first {
+        None => 0,
+        Some((_, stream, i)) => {
+            let record = s.records[i];
+            let places = places(w, stream, record.snbase).expect("a record in order");
+            let lost = missing(s, &places)[0];
+            let recovery = payload(s.parity, w, i).to_vec();
+            rebuild(w, s, &places, lost, record.timestamp_recovery, &recovery);
+            1 + settle(w, s)
+        }
+    }
+}
+
+/// The next window value has its counts from the marks and records themselves.
+fn recount(w: Window, s: &Store) -> Window {
+    let present = s.marks[..w.n as usize].iter().filter(|&&mark| mark == 1).count() as u64;
+    let in_use = s.records[..w.k as usize].iter().filter(|record| record.in_use == 1).count() as u64;
+    Window { present, in_use, ..w }
+}
+
+// ---- the three offers ----
+
+pub fn media(w: Window, datagram: &[u8], s: &mut Store) -> Answer {
+    let i = match judge_media(&w, datagram, s) {
+        Err(number) => return refuse(number, w),
+        Ok(i) => i,
+    };
+    s.timestamps[i] = four(datagram, 4);
+    payload_mut(s.media, &w, i).copy_from_slice(&datagram[12..]);
+    s.marks[i] = 1;
+    let count = settle(&w, s);
+    Answer { number: 0, count, window: recount(w, s) }
+}
+
+pub fn column(w: Window, datagram: &[u8], s: &mut Store) -> Answer {
+    parity(w, COLUMN, datagram, s)
+}
+
+pub fn row(w: Window, datagram: &[u8], s: &mut Store) -> Answer {
+    parity(w, ROW, datagram, s)
+}
+
+fn parity(w: Window, stream: u8, datagram: &[u8], s: &mut Store) -> Answer {
+    let places = match judge_parity(&w, stream, datagram, s) {
+        Err(number) => return refuse(number, w),
+        Ok(places) => places,
+    };
+    let (snbase, timestamp_recovery, recovery) = (two(datagram, 12), four(datagram, 20), &datagram[28..]);
+    let lost = missing(s, &places);
+    let mut count = 0;
+    if lost.len() == 1 {
+        rebuild(&w, s, &places, lost[0], timestamp_recovery, recovery);
+        count = 1;
+    }
+    if lost.len() >= 2 {
+        let free = (0..w.k as usize).find(|&i| s.records[i].in_use == 0).expect("16 is ruled out");
+        s.records[free] = Record { stream, snbase, timestamp_recovery, in_use: 1 };
+        payload_mut(s.parity, &w, free).copy_from_slice(recovery);
+    }
+    count += settle(&w, s);
+    Answer { number: 0, count, window: recount(w, s) }
+}
+
+// ---- reading out and writing parity ----
+
+fn rtp_header(payload_type: u8, stamp: Stamp) -> Vec<u8> {
+    let mut bytes = vec![0x80, payload_type];
+    bytes.extend(stamp.sequence.to_be_bytes());
+    bytes.extend(stamp.timestamp.to_be_bytes());
+    bytes.extend(stamp.ssrc.to_be_bytes());
+    bytes
+}
+
+pub fn read(w: Window, number: u16, s: &Store, out: &mut [u8]) -> Answer {
+    match read_bytes(&w, number, s, out.len()) {
+        Err(number) => refuse(number, w),
+        Ok(bytes) => hand_out(w, &bytes, out),
+    }
+}
+
+fn hand_out(w: Window, bytes: &[u8], out: &mut [u8]) -> Answer {
+    out[..bytes.len()].copy_from_slice(bytes);
+    Answer { number: 0, count: bytes.len() as u64, window: w }
+}
+
+fn read_bytes(w: &Window, number: u16, s: &Store, out_len: usize) -> Result<Vec<u8>, u32> {
+    check_store(w, s, Some((out_len, 12)))?;
+    let i = position(w, number);
+    no_if(i >= w.n, 13)?;
+    let i = i as usize;
+    no_if(s.marks[i] == 0, 17)?;
+    let mut bytes = rtp_header(33, Stamp { sequence: number, timestamp: s.timestamps[i], ssrc: w.ssrc });
+    bytes.extend(payload(s.media, w, i));
+    Ok(bytes)
+}
+
+pub fn write_column(w: Window, snbase: u16, stamp: Stamp, s: &Store, out: &mut [u8]) -> Answer {
+    write_parity(w, COLUMN, snbase, stamp, s, out)
+}
+
+pub fn write_row(w: Window, snbase: u16, stamp: Stamp, s: &Store, out: &mut [u8]) -> Answer {
+    write_parity(w, ROW, snbase, stamp, s, out)
+}
+
+fn write_parity(w: Window, stream: u8, snbase: u16, stamp: Stamp, s: &Store, out: &mut [u8]) -> Answer {
+    match parity_bytes(&w, stream, snbase, stamp, s, out.len()) {
+        Err(number) => refuse(number, w),
+        Ok(bytes) => hand_out(w, &bytes, out),
+    }
+}
+
+fn parity_bytes(w: &Window, stream: u8, snbase: u16, stamp: Stamp, s: &Store, out_len: usize) -> Result<Vec<u8>, u32> {
+    check_store(w, s, Some((out_len, 28)))?;
+    no_if(stream == ROW && w.l < 4, 12)?;
+    let places = places(w, stream, snbase).ok_or(13u32)?;
+    no_if(!missing(s, &places).is_empty(), 17)?;
+    let (mut length, mut payload_type, mut timestamp) = (0u16, 0u8, 0u32);
+    let mut recovery = vec![0; w.p as usize];
+    for &i in &places {
+        length ^= w.p as u16;
+        payload_type ^= 33;
+        timestamp ^= s.timestamps[i];
+        xor_into(&mut recovery, payload(s.media, w, i));
+    }
+    let mut bytes = rtp_header(96, stamp);
+    bytes.extend(snbase.to_be_bytes());
+    bytes.extend(length.to_be_bytes());
+    bytes.push(0x80 | payload_type);
+    bytes.extend([0, 0, 0]);
+    bytes.extend(timestamp.to_be_bytes());
+    bytes.push(stream << 6);
+    bytes.push(offset(w, stream) as u8);
+    bytes.push(na(w, stream) as u8);
+    bytes.push(0);
+    bytes.extend(recovery);
+    Ok(bytes)
+}
+
+#[cfg(test)]
+mod tests {
+    use super::*;
+
+    struct Held {
+        media: Vec<u8>,
+        timestamps: Vec<u32>,
+        marks: Vec<u8>,
+        parity: Vec<u8>,
+        records: Vec<Record>,
+    }
+
+    impl Held {
+        fn new(n: usize, k: usize, p: usize) -> Held {
+            Held {
+                media: vec![9; n * p],
+                timestamps: vec![9; n],
+                marks: vec![9; n],
+                parity: vec![9; k * p],
+                records: vec![Record { stream: 9, snbase: 9, timestamp_recovery: 9, in_use: 9 }; k],
+            }
+        }
+
+        fn lend(&mut self) -> Store<'_> {
+            Store {
+                media: &mut self.media,
+                timestamps: &mut self.timestamps,
+                marks: &mut self.marks,
+                parity: &mut self.parity,
+                records: &mut self.records,
+            }
+        }
+    }
+
+    fn asked(base: u16, l: u64, d: u64, p: u64, n: u64, k: u64) -> Window {
+        Window { base, ssrc: 1, l, d, p, n, k, present: 0, in_use: 0 }
+    }
+
+    fn packet(number: u16, timestamp: u32, p: usize) -> Vec<u8> {
+        let mut bytes = rtp_header(33, Stamp { sequence: number, timestamp, ssrc: 77 });
+        bytes.extend((0..p).map(|i| (i as u32).wrapping_mul(timestamp) as u8));
+        bytes
+    }
+
+    #[test]
+    fn bench_cases_1_and_2() {
+        let try_open = |l, d, p| open(asked(0, l, d, p, 100, 1), &mut Held::new(100, 1, 1632).lend()).number;
+        assert_eq!([try_open(20, 5, 188), try_open(1, 4, 188)], [0, 0]);
+        assert_eq!([try_open(20, 6, 188), try_open(21, 4, 188), try_open(4, 3, 188)], [1, 1, 1]);
+        assert_eq!([188, 1316, 204, 1428].map(|p| try_open(4, 4, p)), [0; 4]);
+        assert_eq!([0, 187, 1504, 1632].map(|p| try_open(4, 4, p)), [2; 4]);
+    }
+
+    #[test]
+    fn bench_cases_3_to_6() {
+        let w = asked(65_530, 4, 4, 188, 16, 8);
+        assert_eq!((position(&w, 0), position(&w, 9)), (6, 15));
+        assert_eq!(group(&w, COLUMN, 65_530), [65_530, 65_534, 2, 6]);
+        assert_eq!([65_533, 65_534, 65_529].map(|snbase| places(&w, COLUMN, snbase).is_some()), [true, false, false]);
+        assert_eq!([6, 7].map(|snbase| places(&w, ROW, snbase).is_some()), [true, false]);
+    }
+
+    #[test]
+    fn bench_cases_7_and_9() {
+        let mut held = Held::new(16, 8, 188);
+        let mut w = open(asked(65_530, 4, 4, 188, 16, 8), &mut held.lend()).window;
+        for (j, number) in [65_530u16, 65_534, 2, 6].into_iter().enumerate() {
+            w = media(w, &packet(number, 1000 * (j as u32 + 1), 188), &mut held.lend()).window;
+        }
+        let mut out = vec![0xEE; 300];
+        let answer = write_column(w, 65_530, Stamp { sequence: 7, timestamp: 0, ssrc: 0 }, &held.lend(), &mut out);
+        assert_eq!((answer.number, answer.count, answer.window), (0, 216, w));
+        assert_eq!(out[..12], [0x80, 0x60, 0, 7, 0, 0, 0, 0, 0, 0, 0, 0]);
+        assert_eq!(out[12..28], [0xFF, 0xFA, 0, 0, 0x80, 0, 0, 0, 0, 0, 0, 0x20, 0, 4, 4, 0]);
+        assert!(out[216..].iter().all(|&byte| byte == 0xEE));
+        // The same parity and three of the four give the fourth back.
+        let mut other = Held::new(16, 8, 188);
+        let mut v = open(asked(65_530, 4, 4, 188, 16, 8), &mut other.lend()).window;
+        v = column(v, &out[..216], &mut other.lend()).window;
+        assert_eq!((v.present, v.in_use), (0, 1));
+        for (j, number) in [65_530u16, 65_534, 2].into_iter().enumerate() {
+            v = media(v, &packet(number, 1000 * (j as u32 + 1), 188), &mut other.lend()).window;
+        }
+        assert_eq!((v.present, v.in_use, other.timestamps[12]), (4, 0, 4000));
+        assert_eq!(media(v, &packet(6, 4000, 188), &mut other.lend()).number, 14);
+        assert_eq!(media(v, &packet(6, 4001, 188), &mut other.lend()).number, 15);
+    }
+
+    #[test]
+    fn bench_case_8() {
+        let mut held = Held::new(20, 1, 1316);
+        let mut w = open(asked(0, 4, 5, 1316, 20, 1), &mut held.lend()).window;
+        for number in 0..20 {
+            w = media(w, &packet(number, 5, 1316), &mut held.lend()).window;
+        }
+        let mut out = vec![0; 1344];
+        assert_eq!(write_column(w, 0, Stamp { sequence: 0, timestamp: 0, ssrc: 0 }, &held.lend(), &mut out).number, 0);
+        assert_eq!(out[14..17], [0x05, 0x24, 0xA1]);
+    }
+
+    #[test]
+    fn bench_cases_10_and_11() {
+        let mut whole = Held::new(16, 8, 188);
+        let mut w = open(asked(65_530, 4, 4, 188, 16, 8), &mut whole.lend()).window;
+        let sent: Vec<Vec<u8>> = (0..16u16).map(|i| packet(65_530u16.wrapping_add(i), 3 + 7 * u32::from(i), 188)).collect();
+        for packet in &sent {
+            w = media(w, packet, &mut whole.lend()).window;
+        }
+        let mut held = Held::new(16, 8, 188);
+        let mut v = open(asked(65_530, 4, 4, 188, 16, 8), &mut held.lend()).window;
+        let stamp = Stamp { sequence: 1, timestamp: 2, ssrc: 3 };
+        for i in 0..4u16 {
+            let mut out = vec![0; 216];
+            write_column(w, 65_530u16.wrapping_add(i), stamp, &whole.lend(), &mut out);
+            v = column(v, &out, &mut held.lend()).window;
+            write_row(w, 65_530u16.wrapping_add(4 * i), stamp, &whole.lend(), &mut out);
+            v = row(v, &out, &mut held.lend()).window;
+        }
+        for (i, packet) in sent.iter().enumerate() {
+            if ![0, 1, 4, 5].contains(&i) {
+                v = media(v, packet, &mut held.lend()).window;
+            }
+        }
+        assert_eq!((v.present, v.in_use), (12, 4));
+        let answer = media(v, &sent[5], &mut held.lend());
+        assert_eq!((answer.number, answer.count, answer.window.present, answer.window.in_use), (0, 3, 16, 0));
+        assert_eq!(held.media, whole.media);
+        assert_eq!(held.timestamps, whole.timestamps);
+    }
+
+    #[test]
+    fn huge_window_values_are_refused_and_do_not_overflow() {
+        let mut held = Held::new(16, 8, 188);
+        let w = open(asked(0, 4, 4, 188, 16, 8), &mut held.lend()).window;
+        let huge = u64::MAX;
+        let number = |w| media(w, &[], &mut Held::new(16, 8, 188).lend()).number;
+        assert_eq!(number(Window { l: huge, d: huge, ..w }), 1);
+        assert_eq!(number(Window { l: 1 << 32, d: 1 << 32, ..w }), 1);
+        assert_eq!(number(Window { p: huge, ..w }), 2);
+        assert_eq!(number(Window { n: huge, ..w }), 3);
+        assert_eq!(number(Window { k: huge, ..w }), 3);
+        assert_eq!(media(Window { present: huge, ..w }, &[], &mut held.lend()).number, 5);
+        assert_eq!(media(Window { in_use: huge, ..w }, &[], &mut held.lend()).number, 5);
+        assert_eq!(media(w, &[], &mut held.lend()).number, 6);
+        assert_eq!(media(Window::default(), &[], &mut held.lend()).number, 1);
+    }
+
+    #[test]
+    fn of_a_free_record_only_the_mark_counts() {
+        let mut held = Held::new(16, 8, 188);
+        let w = open(asked(0, 4, 4, 188, 16, 8), &mut held.lend()).window;
+        held.records[3] = Record { stream: 200, snbase: 60_000, timestamp_recovery: 1, in_use: 0 };
+        held.timestamps[2] = 5;
+        assert_eq!(media(w, &packet(0, 1, 188), &mut held.lend()).number, 0);
+        assert_eq!(held.records[3].stream, 200);
+        assert_eq!(held.timestamps[2], 5);
+    }
+}

@@ -1,0 +1,660 @@
+//! Random traffic through both programs, a window at a time. A window is drawn wholly from its seed.
+
+use crate::model::{Record, Stamp, Window, COLUMN, ROW};
+use crate::pair::{Call, Lengths, Pair, Tally};
+use crate::rng::Rng;
+use crate::wire::Stretch;
+
+/// Elements past the longest part that is ever lent.
+const GUARD: usize = 16;
+
+pub fn profiles() -> Vec<(u64, u64)> {
+    let mut list = Vec::new();
+    for l in 1..=20 {
+        for d in 4..=20 {
+            if l * d <= 100 {
+                list.push((l, d));
+            }
+        }
+    }
+    list
+}
+
+fn sizes() -> Vec<u64> {
+    (1..=7).flat_map(|k| [k * 188, k * 204]).collect()
+}
+
+/// How unruly a window is, each in cases of a thousand.
+struct Mood {
+    disturb: u64,
+    made_up: u64,
+    short: u64,
+    lies: u64,
+    repeats: u64,
+}
+
+struct Play<'a> {
+    rng: Rng,
+    mood: Mood,
+    asked: Window,
+    window: Window,
+    stretch: Stretch,
+    pair: Pair,
+    undo: Vec<Change>,
+    window_before: Window,
+    stuck: u32,
+    step: u64,
+    tally: &'a mut Tally,
+}
+
+/// A change made to the store from outside, with what stood there.
+enum Change {
+    Mark(usize, u8),
+    Timestamp(usize, u32),
+    Media(usize, u8),
+    Parity(usize, u8),
+    Record(usize, Record),
+}
+
+/// Runs the window of a seed. The error says at which step the programs differ and how.
+pub fn run(seed: u64, tally: &mut Tally) -> Result<(), String> {
+    let mut rng = Rng::new(seed, 3);
+    let knotted = rng.chance(120);
+    let asked = if knotted { draw_knotted_window(&mut rng) } else { draw_window(seed, &mut rng) };
+    tally.windows += 1;
+    tally.profiles.insert((asked.l, asked.d));
+    let (n, k, p) = (asked.n as usize, asked.k as usize, asked.p as usize);
+    let slack = rng.pick(&[0, 0, 1, 3, 20]);
+    let size = Lengths {
+        media: n * p + slack * p + slack % 3 + GUARD,
+        timestamps: n + slack + GUARD,
+        marks: n + slack + GUARD,
+        parity: k * p + slack * p + slack % 3 + GUARD,
+        records: k + slack + GUARD,
+        out: 28 + p + 64,
+    };
+    let calm = rng.chance(250);
+    let mood = Mood {
+        disturb: if calm { 0 } else { rng.pick(&[20, 100, 300]) },
+        made_up: if calm { 0 } else { rng.pick(&[0, 10, 40]) },
+        short: if calm { 0 } else { rng.pick(&[0, 5, 20]) },
+        lies: if knotted { 1000 } else { rng.pick(&[0, 0, 100, 600, 1000]) },
+        repeats: rng.pick(&[0, 50, 300]),
+    };
+    let stretch = Stretch::draw(&mut rng, asked.base, asked.l as usize, asked.d as usize, p, n);
+    let pair = Pair::new(&mut rng, size);
+    let (window, window_before) = (Window::default(), Window::default());
+    let list = if knotted { knot(&mut rng, &stretch) } else { offers(&mut rng, &stretch, mood.lies, mood.repeats) };
+    let mut play = Play { rng, mood, asked, window, stretch, pair, undo: Vec::new(), window_before, stuck: 0, step: 0, tally };
+    match play.whole(list) {
+        Ok(()) => Ok(()),
+        Err(text) => Err(format!("step {}\n{text}", play.step)),
+    }
+}
+
+fn draw_window(seed: u64, rng: &mut Rng) -> Window {
+    let all = profiles();
+    let (l, d) = if rng.chance(600) {
+        all[(seed % all.len() as u64) as usize]
+    } else {
+        rng.pick(&[(1, 4), (2, 4), (3, 4), (4, 4), (4, 4), (4, 5), (5, 4), (5, 5), (3, 5), (6, 4), (4, 7)])
+    };
+    let p = if rng.chance(900) { rng.pick(&[188, 188, 188, 204]) } else { rng.pick(&sizes()) };
+    let least = l * d;
+    let most = if p > 204 { (2 * least).min(400) } else { 400 };
+    let n = match rng.below(10) {
+        0..=2 => least,
+        3..=5 => rng.between(least, (least + l + 3).min(most)),
+        6..=7 => (2 * least).min(most),
+        8 => rng.between(least, (3 * least).min(most)),
+        _ => rng.between(least, most),
+    };
+    let k = match rng.below(20) {
+        0..=3 => rng.between(1, 3),
+        4..=9 => rng.between(4, 12),
+        10..=16 => rng.between(13, 64),
+        _ => rng.between(65, 128),
+    };
+    let base = match rng.below(10) {
+        0..=5 => (65_536 - rng.between(1, n)) as u16,
+        6..=7 => rng.pick(&[0, 1, 65_535, (65_536 - n) as u16, (65_536 - n + 1) as u16]),
+        _ => rng.next() as u16,
+    };
+    Window { base, ssrc: rng.next() as u32, l, d, p, n, k, present: 0, in_use: 0 }
+}
+
+/// A window with room for groups that begin in the second row of the matrix, and for many of them.
+fn draw_knotted_window(rng: &mut Rng) -> Window {
+    let (l, d) = rng.pick(&[(4, 4), (4, 4), (4, 5), (5, 4), (6, 4)]);
+    let n = l * d + l * rng.between(1, 3) + rng.below(l);
+    let base = (65_536 - rng.below(n + 1)) as u16;
+    Window { base, ssrc: rng.next() as u32, l, d, p: 188, n, k: rng.between(40, 128), present: 0, in_use: 0 }
+}
+
+/// A value near the present one, or one that no set-up has.
+fn twist(rng: &mut Rng, value: u64) -> u64 {
+    match rng.below(12) {
+        0..=2 => value.wrapping_add(1),
+        3..=5 => value.wrapping_sub(1),
+        6 => 0,
+        7 => rng.pick(&[u64::MAX, u64::MAX - 1, 1 << 63, 1 << 32, (1 << 63) - 1, u64::MAX / 188 + 1]),
+        8 => value.wrapping_add(rng.pick(&[1 << 16, 1 << 32, 1 << 63, 1 << 8])),
+        9 => value.wrapping_mul(2),
+        10 => rng.below(24),
+        _ => rng.below(500),
+    }
+}
+
+/// A window value with one field changed, or a few.
+fn make_up(rng: &mut Rng, window: Window) -> Window {
+    let mut w = window;
+    for _ in 0..rng.pick(&[1, 1, 1, 2, 3]) {
+        match rng.below(12) {
+            0 => w.base = w.base.wrapping_add(rng.pick(&[1, 65_535, 4, 32_768])),
+            1 => w.ssrc = rng.next() as u32,
+            2 => w.l = twist(rng, w.l),
+            3 => w.d = twist(rng, w.d),
+            4 => w.p = if rng.chance(400) { rng.pick(&sizes()) } else { twist(rng, w.p) },
+            5 => w.n = if rng.chance(300) { rng.pick(&[w.l.wrapping_mul(w.d), 400, 401]) } else { twist(rng, w.n) },
+            6 => w.k = if rng.chance(300) { rng.pick(&[1, 128, 129]) } else { twist(rng, w.k) },
+            7 => w.present = twist(rng, w.present),
+            8 => w.in_use = twist(rng, w.in_use),
+            9 => (w.l, w.d) = rng.pick(&profiles()),
+            10 => w.p = rng.pick(&[0, 187, 189, 8 * 188, 8 * 204, 203, 205, 392, 65_536 + 188]),
+            _ => (w.l, w.d) = rng.pick(&[(1 << 32, 1 << 32), (u64::MAX, u64::MAX), (5, 20), (20, 5), (4, 26), (21, 4), (20, 20), (0, 0)]),
+        }
+    }
+    w
+}
+
+/// The datagrams of a window in the order in which they are offered, each with its port: 1 media, 2 column, 3 row.
+fn offers(rng: &mut Rng, stretch: &Stretch, lies: u64, repeats: u64) -> Vec<(u8, Vec<u8>)> {
+    let n = stretch.n();
+    let lost = losses(rng, n);
+    let mut list: Vec<(u64, u8, Vec<u8>)> = Vec::new();
+    for (i, lost) in lost.iter().enumerate() {
+        if !lost {
+            list.push((i as u64 * 4, 1, stretch.media(i, rng.next() as u32)));
+        }
+    }
+    for (stream, start) in groups(rng, stretch) {
+        let last = stretch.members(stream, start).into_iter().max().unwrap_or(start).max(0) as u64;
+        let mut datagram = stretch.parity(stream, start, rng.next() as u16, rng.next() as u32, rng.next() as u32);
+        if rng.chance(lies) {
+            lie(rng, &mut datagram);
+        }
+        list.push((last * 4 + 1 + u64::from(stream), stream + 2, datagram));
+    }
+    for i in 0..list.len() {
+        if rng.chance(repeats) {
+            let mut again = list[i].clone();
+            again.0 += rng.below(200);
+            list.push(again);
+        }
+    }
+    let jitter = rng.pick(&[1, 1, 12, 80, 100_000]);
+    let delay_of_parity = rng.pick(&[0, 0, 0, 40, 100_000]);
+    let delay_of_media = rng.pick(&[0, 0, 0, 0, 100_000]);
+    for entry in &mut list {
+        entry.0 += rng.below(jitter) + if entry.1 == 1 { delay_of_media } else { delay_of_parity };
+    }
+    list.sort_by_key(|entry| entry.0);
+    let most = if stretch.p > 204 { 150 } else { 500 };
+    list.truncate(most);
+    list.into_iter().map(|(_, port, datagram)| (port, datagram)).collect()
+}
+
+/// A few packets of neighbouring rows and lines are missing, and lying parity that covers two or more of them is in hand. Then
+/// the missing packets come, and each sets off a chain in which several parity packets are ready at once and disagree: the order
+/// in which they rebuild shows in the bytes.
+fn knot(rng: &mut Rng, stretch: &Stretch) -> Vec<(u8, Vec<u8>)> {
+    let (n, l) = (stretch.n(), stretch.l);
+    let corner = rng.index(n);
+    let mut late: Vec<usize> = Vec::new();
+    for down in 0..rng.between(2, 4) as usize {
+        for right in 0..rng.between(2, 3) as usize {
+            let i = corner + down * l + right;
+            if rng.chance(700) && !late.contains(&(i % n)) {
+                late.push(i % n);
+            }
+        }
+    }
+    let mut list: Vec<(u8, Vec<u8>)> = Vec::new();
+    for i in (0..n).filter(|i| !late.contains(i)) {
+        list.push((1, stretch.media(i, 0)));
+    }
+    let density = rng.pick(&[400, 700, 1000]);
+    let mut parity = Vec::new();
+    for stream in [COLUMN, ROW] {
+        for start in (0..n as i64).filter(|&start| stretch.fits(stream, start)) {
+            let covered = stretch.members(stream, start).into_iter().filter(|&i| late.contains(&(i as usize))).count();
+            if covered >= 2 && rng.chance(density) {
+                let mut datagram = stretch.parity(stream, start, 0, 0, 0);
+                lie(rng, &mut datagram);
+                parity.push((stream + 2, datagram));
+            }
+        }
+    }
+    rng.shuffle(&mut parity);
+    list.extend(parity);
+    rng.shuffle(&mut late);
+    list.extend(late.into_iter().map(|i| (1, stretch.media(i, 0))));
+    list
+}
+
+fn losses(rng: &mut Rng, n: usize) -> Vec<bool> {
+    let rate = rng.pick(&[0, 20, 100, 100, 300, 300, 500, 800]);
+    let mut lost: Vec<bool> = (0..n).map(|_| rng.chance(rate)).collect();
+    for _ in 0..rng.pick(&[0, 0, 1, 2, 4]) {
+        let start = rng.index(n);
+        let len = rng.between(1, 40) as usize;
+        lost[start..(start + len).min(n)].fill(true);
+    }
+    lost
+}
+
+/// The parity groups that are sent: aligned, staggered, or at any position, also partly outside.
+fn groups(rng: &mut Rng, stretch: &Stretch) -> Vec<(u8, i64)> {
+    let (n, l, d) = (stretch.n(), stretch.l, stretch.d);
+    let mut list = Vec::new();
+    let style = rng.below(6);
+    if style != 5 && rng.chance(700) {
+        list.extend((0..n).filter(|i| i % (l * d) < l).map(|i| (COLUMN, i as i64)));
+    }
+    if style != 5 && l >= 4 && rng.chance(700) {
+        list.extend((0..n).filter(|i| i % l == 0).map(|i| (ROW, i as i64)));
+    }
+    if style == 1 {
+        let start = |r: usize| r + l * (r % d);
+        list.extend((0..n).filter(|i| (0..l).any(|r| *i >= start(r) && (i - start(r)) % (l * d) == 0)).map(|i| (COLUMN, i as i64)));
+    }
+    if style == 2 || style == 5 {
+        // Groups at every position, as many as small windows have room to confuse.
+        let density = rng.pick(&[200, 500, 1000]);
+        list.extend((0..n).filter(|_| rng.chance(density)).map(|i| (COLUMN, i as i64)));
+        if l >= 4 {
+            list.extend((0..n).filter(|_| rng.chance(density)).map(|i| (ROW, i as i64)));
+        }
+        list.retain(|&(stream, start)| stretch.fits(stream, start) || rng.chance(100));
+    }
+    for _ in 0..rng.pick(&[0, 2, 10]) {
+        list.push((rng.pick(&[COLUMN, ROW]), rng.below(n as u64 + 10) as i64 - 5));
+    }
+    list
+}
+
+/// Parity that keeps its shape and says something else.
+fn lie(rng: &mut Rng, datagram: &mut [u8]) {
+    if rng.chance(800) {
+        let at = 28 + rng.index(datagram.len() - 28);
+        datagram[at] ^= rng.between(1, 255) as u8;
+    }
+    if rng.chance(600) {
+        rng.fill(&mut datagram[20..24]);
+    }
+}
+
+/// Alters a datagram that was made for a port.
+fn alter(rng: &mut Rng, stretch: &Stretch, port: u8, datagram: &mut Vec<u8>) {
+    for _ in 0..rng.pick(&[1, 1, 1, 2, 3]) {
+        if datagram.len() < 28 {
+            return;
+        }
+        let headers = if port == 1 { 12 } else { 28 };
+        match rng.below(22) {
+            0..=3 => {
+                let at = rng.index(headers);
+                datagram[at] ^= 1 << rng.below(8);
+            }
+            4 => {
+                let at = rng.index(headers);
+                datagram[at] = rng.byte();
+            }
+            5 => datagram[0] = rng.pick(&[0x00, 0x40, 0xC0, 0xA0, 0x90, 0x81, 0x88]),
+            6 => datagram[1] = rng.pick(&[33, 96, 33 | 0x80, 96 | 0x80, 34, 97, 0]),
+            7..=8 => {
+                let at = if port == 1 { 2 } else { 12 };
+                let number = u16::from_be_bytes([datagram[at], datagram[at + 1]]);
+                let shift = rng.pick(&[1u16, 65_535, 2, 4, 65_532, stretch.n() as u16, 65_535 - stretch.n() as u16, 256]);
+                datagram[at..at + 2].copy_from_slice(&number.wrapping_add(shift).to_be_bytes());
+            }
+            9 => {
+                // Every kind of length near a bound.
+                let len = rng.pick(&[0, 1, 11, 12, 13, 27, 28, 29, datagram.len() - 1, datagram.len() - 12, datagram.len() - 16]);
+                datagram.truncate(len);
+            }
+            10 => {
+                let more = rng.pick(&[1, 1, 2, 12, 16, 188, 600]);
+                datagram.extend(std::iter::repeat_n(7, more));
+            }
+            11 => {
+                let at = rng.index(datagram.len());
+                datagram[at] ^= rng.between(1, 255) as u8;
+            }
+            12 => {
+                let at = if port == 1 { 4 } else { 20 };
+                let at = at + rng.index(4);
+                datagram[at] ^= 1 << rng.below(8);
+            }
+            _ if port == 1 => {
+                let at = datagram.len() - 1 - rng.index(3);
+                datagram[at] ^= rng.between(1, 255) as u8;
+            }
+            13 => {
+                // Another NA, with the recovery fields that would fit it.
+                let na = datagram[26].wrapping_add(rng.pick(&[1, 255, 2]));
+                datagram[26] = na;
+                recovery_fields(datagram, na % 2 == 1, stretch.p as u16);
+            }
+            14 => {
+                let odd = datagram[16] & 1 == 1;
+                recovery_fields(datagram, !odd, stretch.p as u16);
+            }
+            15 => datagram[16] ^= rng.pick(&[33, 0x80, 1, 0x40]),
+            16 => datagram[14 + rng.index(2)] ^= rng.pick(&[1, 2, 128]),
+            17 => datagram[24] ^= rng.pick(&[0x80, 0x40, 0x40, 0x20, 0x10, 0x08, 0x04, 0x02, 0x01]),
+            18 => datagram[25] = rng.pick(&[0, 1, stretch.l as u8, datagram[25].wrapping_add(1), datagram[25].wrapping_sub(1)]),
+            19 => {
+                datagram[26] =
+                    rng.pick(&[0, 1, stretch.l as u8, stretch.d as u8, datagram[26].wrapping_add(2), datagram[26].wrapping_sub(1)])
+            }
+            20 => datagram[17 + rng.index(3)] = rng.pick(&[1, 128, 255]),
+            _ => datagram[27] = rng.pick(&[1, 128, 255]),
+        }
+    }
+}
+
+fn recovery_fields(datagram: &mut [u8], odd: bool, p: u16) {
+    datagram[14..16].copy_from_slice(&(if odd { p } else { 0 }).to_be_bytes());
+    datagram[16] = 0x80 | if odd { 33 } else { 0 };
+}
+
+fn on_port(port: u8, datagram: Vec<u8>) -> Call {
+    match port {
+        1 => Call::Media(datagram),
+        2 => Call::Column(datagram),
+        _ => Call::Row(datagram),
+    }
+}
+
+impl Play<'_> {
+    fn whole(&mut self, list: Vec<(u8, Vec<u8>)>) -> Result<(), String> {
+        while self.rng.chance(200) {
+            self.refused_opening()?;
+        }
+        self.call(Call::Open(self.asked))?;
+        for (port, datagram) in list {
+            while self.rng.chance(self.mood.disturb) {
+                self.disturb()?;
+            }
+            self.call(on_port(port, datagram))?;
+        }
+        for _ in 0..self.rng.below(6) {
+            self.look()?;
+        }
+        Ok(())
+    }
+
+    /// An opening that mostly is not permitted, and calls with the value that it gives.
+    fn refused_opening(&mut self) -> Result<(), String> {
+        let asked = make_up(&mut self.rng, self.asked);
+        self.call(Call::Open(asked))?;
+        for _ in 0..self.rng.below(3) {
+            let (port, datagram) = self.any_packet();
+            self.call(on_port(port, datagram))?;
+            self.look()?;
+        }
+        Ok(())
+    }
+
+    /// Any packet that the sender could have sent, also for groups partly outside.
+    fn any_packet(&mut self) -> (u8, Vec<u8>) {
+        let n = self.stretch.n();
+        let (sequence, timestamp, ssrc) = (self.rng.next() as u16, self.rng.next() as u32, self.rng.next() as u32);
+        match self.rng.below(3) {
+            0 => (1, self.stretch.media(self.rng.index(n), ssrc)),
+            kind => {
+                let start = self.rng.below(n as u64 + 6) as i64 - 3;
+                (kind as u8 + 1, self.stretch.parity(kind as u8 - 1, start, sequence, timestamp, ssrc))
+            }
+        }
+    }
+
+    fn any_number(&mut self) -> u16 {
+        let n = self.window.n.min(1000);
+        match self.rng.below(8) {
+            0 => self.rng.next() as u16,
+            1 => self.window.base.wrapping_add(n as u16).wrapping_add(self.rng.pick(&[0, 1, 65_535])),
+            2 => self.window.base.wrapping_sub(1),
+            _ => self.window.base.wrapping_add(self.rng.below(n + 1) as u16),
+        }
+    }
+
+    /// Reads a packet out or writes a parity packet.
+    fn look(&mut self) -> Result<(), String> {
+        let number = self.any_number();
+        let stamp = Stamp { sequence: self.rng.next() as u16, timestamp: self.rng.next() as u32, ssrc: self.rng.next() as u32 };
+        let call = match self.rng.below(3) {
+            0 => Call::Read(number),
+            1 => Call::WriteColumn(number, stamp),
+            _ => Call::WriteRow(number, stamp),
+        };
+        self.call(call)
+    }
+
+    fn disturb(&mut self) -> Result<(), String> {
+        match self.rng.below(20) {
+            0..=6 => {
+                let (port, mut datagram) = self.any_packet();
+                alter(&mut self.rng, &self.stretch, port, &mut datagram);
+                self.call(on_port(port, datagram))
+            }
+            7 => {
+                let (port, datagram) = self.any_packet();
+                let other = port % 3 + 1;
+                let call = on_port(if self.rng.chance(500) { other } else { other % 3 + 1 }, datagram);
+                self.call(call)
+            }
+            8 => {
+                let len = match self.rng.below(3) {
+                    0 => self.rng.index(40),
+                    1 => self.rng.index(1500),
+                    _ => self.rng.pick(&[12, 28]) + self.asked.p as usize,
+                };
+                let mut datagram = vec![0; len];
+                self.rng.fill(&mut datagram);
+                if len >= 2 && self.rng.chance(700) {
+                    datagram[0] = 0x80;
+                    datagram[1] = self.rng.pick(&[33, 96]);
+                }
+                let call = on_port(self.rng.between(1, 3) as u8, datagram);
+                self.call(call)
+            }
+            9..=12 => self.look(),
+            13..=14 => {
+                let (port, datagram) = self.any_packet();
+                self.call(on_port(port, datagram))
+            }
+            15 if self.rng.chance(30) => self.call(Call::Open(self.asked)),
+            _ => {
+                self.window_before = if self.undo.is_empty() { self.window } else { self.window_before };
+                for _ in 0..self.rng.pick(&[1, 1, 2, 4]) {
+                    self.meddle();
+                }
+                match self.rng.below(3) {
+                    0 => self.look(),
+                    _ => {
+                        let (port, datagram) = self.any_packet();
+                        self.call(on_port(port, datagram))
+                    }
+                }
+            }
+        }
+    }
+
+    /// Changes the store from outside, the same in both, sometimes with the window value to match.
+    fn meddle(&mut self) {
+        let size = self.pair.size();
+        let marks = (self.window.n as usize + 1).min(size.marks);
+        let records = (self.window.k as usize + 1).min(size.records);
+        let (i, r) = (self.rng.index(marks), self.rng.index(records));
+        match self.rng.below(13) {
+            0..=2 => {
+                let (old, new) = (self.pair.mark(i), self.rng.pick(&[0, 1, 1, 2, 255]));
+                self.undo.push(Change::Mark(i, old));
+                self.pair.set_mark(i, new);
+                if self.rng.chance(700) && (i as u64) < self.window.n {
+                    self.window.present = self.window.present.wrapping_add(u64::from(new == 1)).wrapping_sub(u64::from(old == 1));
+                }
+            }
+            3 => {
+                self.undo.push(Change::Timestamp(i, self.pair.timestamp(i)));
+                let to = self.rng.next() as u32;
+                self.pair.set_timestamp(i, to);
+            }
+            4..=5 => {
+                let at = self.rng.index(size.media);
+                self.undo.push(Change::Media(at, self.pair.media_byte(at)));
+                let to = self.rng.byte();
+                self.pair.set_media_byte(at, to);
+            }
+            6..=7 => {
+                let at = self.rng.index(size.parity);
+                self.undo.push(Change::Parity(at, self.pair.parity_byte(at)));
+                let to = self.rng.byte();
+                self.pair.set_parity_byte(at, to);
+            }
+            _ => {
+                let old = self.pair.record(r);
+                let mut new = old;
+                match self.rng.below(8) {
+                    0 => new.stream = self.rng.pick(&[0, 1, 2, 255]),
+                    1 => new.snbase = self.any_number(),
+                    2 => new.timestamp_recovery = self.rng.next() as u32,
+                    3 => new.in_use = self.rng.pick(&[0, 1, 2, 255]),
+                    4 => new = self.pair.record((r + 1) % records),
+                    5 if old.in_use == 0 => {
+                        // Old bytes in a free record.
+                        new = Record { stream: self.rng.byte(), snbase: self.any_number(), timestamp_recovery: 5, in_use: 0 };
+                    }
+                    _ => {
+                        // A parity packet put in hand from outside.
+                        let stream = self.rng.pick(&[COLUMN, ROW]);
+                        new = Record { stream, snbase: self.any_number(), timestamp_recovery: self.rng.next() as u32, in_use: 1 };
+                    }
+                }
+                self.undo.push(Change::Record(r, old));
+                self.pair.set_record(r, new);
+                if self.rng.chance(800) && (r as u64) < self.window.k {
+                    self.window.in_use =
+                        self.window.in_use.wrapping_add(u64::from(new.in_use == 1)).wrapping_sub(u64::from(old.in_use == 1));
+                }
+            }
+        }
+    }
+
+    fn undo(&mut self) {
+        while let Some(change) = self.undo.pop() {
+            match change {
+                Change::Mark(i, to) => self.pair.set_mark(i, to),
+                Change::Timestamp(i, to) => self.pair.set_timestamp(i, to),
+                Change::Media(i, to) => self.pair.set_media_byte(i, to),
+                Change::Parity(i, to) => self.pair.set_parity_byte(i, to),
+                Change::Record(i, to) => self.pair.set_record(i, to),
+            }
+        }
+        self.window = self.window_before;
+    }
+
+    /// What is lent: exactly the need or more, at times one part too short.
+    fn lengths(&mut self, w: &Window, call: &Call) -> Lengths {
+        let size = self.pair.size();
+        let loose = self.rng.chance(500);
+        let lend = |need: u64, whole: usize| {
+            let most = whole - GUARD;
+            if need > most as u64 || loose {
+                most
+            } else {
+                need as usize
+            }
+        };
+        let headers = if matches!(call, Call::Read(_)) { 12 } else { 28 };
+        let mut lengths = Lengths {
+            media: lend(w.n.saturating_mul(w.p), size.media),
+            timestamps: lend(w.n, size.timestamps),
+            marks: lend(w.n, size.marks),
+            parity: lend(w.k.saturating_mul(w.p), size.parity),
+            records: lend(w.k, size.records),
+            out: lend(w.p.saturating_add(headers), size.out),
+        };
+        if matches!(call, Call::Read(_) | Call::WriteColumn(..) | Call::WriteRow(..)) && self.rng.chance(3 * self.mood.short) {
+            // Often just under the need, whatever else is wrong.
+            let under = self.rng.between(1, 3) as usize;
+            lengths.out = ((w.p.min(1428) + headers) as usize - under).min(lengths.out);
+        }
+        if self.rng.chance(self.mood.short) {
+            let part = match self.rng.below(6) {
+                0 => &mut lengths.media,
+                1 => &mut lengths.timestamps,
+                2 => &mut lengths.marks,
+                3 => &mut lengths.parity,
+                4 => &mut lengths.records,
+                _ => &mut lengths.out,
+            };
+            *part = match self.rng.below(6) {
+                0 => 0,
+                1 => self.rng.index(*part + 1),
+                _ => part.saturating_sub(1),
+            };
+        }
+        lengths
+    }
+
+    /// One call to both, with all that comes with it.
+    fn call(&mut self, call: Call) -> Result<(), String> {
+        let made_up = !matches!(call, Call::Open(_)) && self.rng.chance(self.mood.made_up);
+        let window = if made_up { make_up(&mut self.rng, self.window) } else { self.window };
+        let sized_by = if let Call::Open(asked) = &call { *asked } else { window };
+        let lengths = self.lengths(&sized_by, &call);
+        self.step += 1;
+        let filler = self.rng.byte();
+        let answer = self.pair.run(window, &call, lengths, filler, self.tally)?;
+        if !made_up || answer.number == 0 {
+            self.window = answer.window;
+        }
+        if matches!(call, Call::Open(_)) || answer.number == 0 || (!made_up && answer.number > 5) {
+            self.undo.clear();
+        }
+        if answer.number == 5 && !made_up && !self.undo.is_empty() && self.rng.chance(700) {
+            self.undo();
+        }
+        self.stuck = if answer.number == 0 || answer.number > 5 { 0 } else { self.stuck + 1 };
+        if self.stuck >= 6 {
+            // A window that only refuses shows nothing more: begin again.
+            self.stuck = 0;
+            let again = self.asked;
+            return self.call(Call::Open(again));
+        }
+        Ok(())
+    }
+}
+
+#[cfg(test)]
+mod tests {
+    use super::*;
+
+    #[test]
+    fn there_are_166_profiles() {
+        assert_eq!(profiles().len(), 166);
+    }
+
+    #[test]
+    fn a_seed_gives_the_same_window_again() {
+        for seed in 0..100 {
+            let (mut a, mut b) = (Tally::default(), Tally::default());
+            run(seed, &mut a).unwrap();
+            run(seed, &mut b).unwrap();
+            assert_eq!((a.calls, a.numbers, a.rebuilt), (b.calls, b.numbers, b.rebuilt));
+        }
+    }
+}

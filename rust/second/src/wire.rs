@@ -1,0 +1,108 @@
+//! A stretch of media packets and the datagrams that a sender makes of it.
+
+use crate::model::COLUMN;
+use crate::rng::Rng;
+
+pub struct Stretch {
+    pub base: u16,
+    pub l: usize,
+    pub d: usize,
+    pub p: usize,
+    pub timestamps: Vec<u32>,
+    pub payloads: Vec<Vec<u8>>,
+}
+
+impl Stretch {
+    pub fn draw(rng: &mut Rng, base: u16, l: usize, d: usize, p: usize, n: usize) -> Stretch {
+        let step = rng.pick(&[0u32, 3600, 1, 0x8000_0001]);
+        let wild = rng.chance(500);
+        let start = rng.next() as u32;
+        let timestamps = (0..n as u32).map(|i| if wild { rng.next() as u32 } else { start.wrapping_add(i.wrapping_mul(step)) }).collect();
+        let sparse = rng.chance(150);
+        let payloads = (0..n)
+            .map(|_| {
+                let mut bytes = vec![0; p];
+                if sparse {
+                    bytes[rng.index(p)] = rng.byte();
+                } else {
+                    rng.fill(&mut bytes);
+                }
+                bytes
+            })
+            .collect();
+        Stretch { base, l, d, p, timestamps, payloads }
+    }
+
+    pub fn n(&self) -> usize {
+        self.payloads.len()
+    }
+
+    /// The number of a position, which may lie behind the base or past the end.
+    pub fn number(&self, position: i64) -> u16 {
+        (i64::from(self.base) + position).rem_euclid(65_536) as u16
+    }
+
+    pub fn step(&self, stream: u8) -> usize {
+        if stream == COLUMN {
+            self.l
+        } else {
+            1
+        }
+    }
+
+    pub fn size(&self, stream: u8) -> usize {
+        if stream == COLUMN {
+            self.d
+        } else {
+            self.l
+        }
+    }
+
+    /// The positions that the group starting at a position covers, inside or not.
+    pub fn members(&self, stream: u8, start: i64) -> Vec<i64> {
+        (0..self.size(stream)).map(|j| start + (j * self.step(stream)) as i64).collect()
+    }
+
+    pub fn fits(&self, stream: u8, start: i64) -> bool {
+        self.members(stream, start).iter().all(|&i| i >= 0 && i < self.n() as i64)
+    }
+
+    pub fn media(&self, position: usize, ssrc: u32) -> Vec<u8> {
+        let mut bytes = vec![0x80, 33];
+        bytes.extend(self.number(position as i64).to_be_bytes());
+        bytes.extend(self.timestamps[position].to_be_bytes());
+        bytes.extend(ssrc.to_be_bytes());
+        bytes.extend(&self.payloads[position]);
+        bytes
+    }
+
+    /// The parity datagram of a group. Members outside the stretch count as zeros, so such a packet is a made-up one.
+    pub fn parity(&self, stream: u8, start: i64, sequence: u16, timestamp: u32, ssrc: u32) -> Vec<u8> {
+        let mut recovery = vec![0u8; self.p];
+        let mut timestamps = 0;
+        for i in self.members(stream, start) {
+            if i >= 0 && i < self.n() as i64 {
+                timestamps ^= self.timestamps[i as usize];
+                for (a, b) in recovery.iter_mut().zip(&self.payloads[i as usize]) {
+                    *a ^= b;
+                }
+            }
+        }
+        let odd = self.size(stream) % 2 == 1;
+        let mut bytes = vec![0x80, 96];
+        bytes.extend(sequence.to_be_bytes());
+        bytes.extend(timestamp.to_be_bytes());
+        bytes.extend(ssrc.to_be_bytes());
+        bytes.extend(self.number(start).to_be_bytes());
+        bytes.extend((if odd { self.p as u16 } else { 0 }).to_be_bytes());
+        bytes.push(if odd { 0x80 + 33 } else { 0x80 });
+        bytes.extend([0, 0, 0]);
+        bytes.extend(timestamps.to_be_bytes());
+        bytes.push(if stream == COLUMN { 0 } else { 0x40 });
+        bytes.push(self.step(stream) as u8);
+        bytes.push(self.size(stream) as u8);
+        bytes.push(0);
+        bytes.extend(recovery);
+        bytes
+    }
+}
