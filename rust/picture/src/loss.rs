@@ -96,12 +96,16 @@ enum Kind {
     Parity,
 }
 
-/// Packets missing of packets sent, where every packet, media or parity, is lost at a rate. Many windows, more where little is lost.
-pub fn after_random(profile: Profile, rate: f64, random: &mut Random) -> f64 {
+/// Packets missing of packets sent, where every packet, media or parity, is lost at a rate: windows until 300 packets stayed missing, or
+/// 12,000 of them. None where fewer than 20 did: that is too few to draw.
+pub fn after_random(profile: Profile, rate: f64, random: &mut Random) -> Option<f64> {
     let sent = sent(profile);
-    let windows = if rate < 0.02 { 3000 } else { 600 };
-    let left: usize = (0..windows).map(|_| missing(&sent, &mut |_, _| random.hits(rate))).sum();
-    left as f64 / (windows * sent.media.len()) as f64
+    let (mut windows, mut left) = (0, 0);
+    while left < 300 && windows < 12_000 {
+        left += missing(&sent, &mut |_, _| random.hits(rate));
+        windows += 1;
+    }
+    (left >= 20).then(|| left as f64 / (windows * sent.media.len()) as f64)
 }
 
 /// The share of a burst that stays missing: media packets in a row, from each position of a matrix on, with every parity packet received.

@@ -37,13 +37,12 @@ fn print(title: &str, unit: &str, curves: &[Curve]) {
 fn main() -> io::Result<()> {
     let folder = env::args().nth(1).unwrap_or_else(|| "docs".to_string());
     let mut random = Random(20_261_115);
-    let survives = curves(&mut |profile| {
-        RATES.iter().map(|rate| (*rate, loss::after_random(profile, *rate, &mut random))).filter(|point| point.1 > 0.0).collect()
-    });
+    let survives =
+        curves(&mut |profile| RATES.iter().filter_map(|rate| Some((*rate, loss::after_random(profile, *rate, &mut random)?))).collect());
     print("random loss: packets missing of packets sent", "", &survives);
     let chart = Chart {
         title: "Random loss: what is still missing after rebuilding",
-        below: "loss on the line, media and parity alike (a curve begins where some packet stayed missing in the run)",
+        below: "loss on the line, media and parity alike (a curve begins where enough stays missing to count)",
         beside: "packets missing of packets sent",
         x: Scale::Log { from: 0.001, to: 0.2, marks: &[0.001, 0.002, 0.005, 0.01, 0.02, 0.05, 0.1, 0.2] },
         y: Scale::Log { from: 1e-6, to: 0.2, marks: &[1e-6, 1e-5, 1e-4, 1e-3, 1e-2, 1e-1] },
