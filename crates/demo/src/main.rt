@@ -1,20 +1,16 @@
 // The night at ten past three: a burst across the wrap of the numbers, and what the parity brings back.
-// The eight parts of a window's store: m media, t timestamps, k marks, p parity, s streams, b SNBases, r recoveries, u uses.
-// The sender's window is x, and its parts have an s before them; the receiver's window is w.
+mod side;
+
 use answer::Answer;
 use libc::STDOUT_FILENO;
-use window::Window;
+use side::Side;
 ghost use Prim.Native.Nat.{_≤_};
-
-const BASE: u16 = 65530;
-
-const SOURCE: u32 = 3232235777;
 
 // ---- what is sent, and what is lost
 
 // The number of a position.
 fn number_of(i: u8) -> u16 {
-    sequence::next(BASE, i)
+    sequence::next(side::BASE, i)
 }
 
 // The positions lost on the way: a burst of four that crosses the wrap, and two alone.
@@ -27,10 +23,10 @@ fn media_packet(i: u8) -> [u8; 200] {
     let mut packet = [0u8; 200];
     rtp::write_rtp(
         &mut packet,
-        33,
+        rtp::MEDIA_TYPE,
         number_of(i),
         900000 + i as u32 * 1234,
-        SOURCE,
+        side::SOURCE,
     );
     let step = std::num::wrapping_add_u8(i, std::num::wrapping_add_u8(i, 1));
     let mut value: u8 = 71;
@@ -44,45 +40,21 @@ fn media_packet(i: u8) -> [u8; 200] {
 }
 
 // The media packet of a position is offered, unless it is lost.
-fn deliver(
-    w: Window,
-    i: u8,
-    lossy: bool,
-    m: &mut [u8],
-    t: &mut [u32],
-    k: &mut [u8],
-    p: &mut [u8],
-    s: &mut [u8],
-    b: &mut [u16],
-    r: &mut [u32],
-    u: &mut [u8],
-) -> Window {
+fn deliver(to: Side, i: u8, lossy: bool) -> Side {
     if lossy & lost(i) {
-        return w;
+        return to;
     }
     let packet = media_packet(i);
-    let o = offering::offer_media(w, &packet, m, t, k, p, s, b, r, u);
-    o.window
+    side::offer(to, side::MEDIA, &packet)
 }
 
 // All sixteen, the last first.
-fn deliver_all(
-    w: Window,
-    lossy: bool,
-    m: &mut [u8],
-    t: &mut [u32],
-    k: &mut [u8],
-    p: &mut [u8],
-    s: &mut [u8],
-    b: &mut [u16],
-    r: &mut [u32],
-    u: &mut [u8],
-) -> Window {
-    let mut v = w;
+fn deliver_all(to: Side, lossy: bool) -> Side {
+    let mut v = to;
     let mut i: u8 = 16;
     while 0 < i {
         i -= 1;
-        let next = deliver(v, i, lossy, m, t, k, p, s, b, r, u);
+        let next = deliver(v, i, lossy);
         v = next;
     }
     v
@@ -140,7 +112,7 @@ fn start_of(stream: u8, j: u8) -> u16 {
     if stream == 0 {
         number_of(j)
     } else {
-        sequence::member_at(BASE, 4, j)
+        sequence::member_at(side::BASE, 4, j)
     }
 }
 
@@ -163,175 +135,44 @@ fn print_answer(stream: u8, start: u16, a: Answer) {
     io::write_all(STDOUT_FILENO, b"\n");
 }
 
-// The parity packet of a column or a row, as the sender writes it; all zeros if it is refused.
-fn parity_packet(
-    x: Window,
-    stream: u8,
-    j: u8,
-    sm: &[u8],
-    st: &[u32],
-    sk: &[u8],
-    sp: &[u8],
-    ss: &[u8],
-    sb: &[u16],
-    sr: &[u32],
-    su: &[u8],
-) -> [u8; 216] {
-    let mut out = [0u8; 216];
-    let start = start_of(stream, j);
-    if stream == 0 {
-        reading::write_column(
-            x,
-            start,
-            j as u16,
-            0,
-            0,
-            sm,
-            st,
-            sk,
-            sp,
-            ss,
-            sb,
-            sr,
-            su,
-            &mut out,
-        );
-    } else {
-        reading::write_row(
-            x,
-            start,
-            j as u16,
-            0,
-            0,
-            sm,
-            st,
-            sk,
-            sp,
-            ss,
-            sb,
-            sr,
-            su,
-            &mut out,
-        );
+// The parity packet of a column or a row, as the sender writes it.
+fn parity_packet(sender: Side, stream: u8, j: u8) -> [u8; 216] {
+    if stream == side::COLUMN {
+        return side::column(sender, start_of(stream, j), j as u16);
     }
-    out
+    side::row(sender, start_of(stream, j), j as u16)
 }
 
 // A parity packet is offered, and its answer printed.
-fn offer_one(
-    w: Window,
-    stream: u8,
-    start: u16,
-    packet: &[u8],
-    m: &mut [u8],
-    t: &mut [u32],
-    k: &mut [u8],
-    p: &mut [u8],
-    s: &mut [u8],
-    b: &mut [u16],
-    r: &mut [u32],
-    u: &mut [u8],
-) -> Window {
-    let o = offering::offer_parity(w, stream, packet, m, t, k, p, s, b, r, u);
-    let a = o.answer;
+fn offer_one(to: Side, stream: u8, start: u16, packet: &[u8]) -> Side {
+    let after = side::offer(to, stream, packet);
+    let a = side::answered(after);
     print_answer(stream, start, a);
-    o.window
+    after
 }
 
 // The four columns or the four rows go from the sender to the receiver.
-fn pass_parity(
-    x: Window,
-    w: Window,
-    stream: u8,
-    sm: &[u8],
-    st: &[u32],
-    sk: &[u8],
-    sp: &[u8],
-    ss: &[u8],
-    sb: &[u16],
-    sr: &[u32],
-    su: &[u8],
-    m: &mut [u8],
-    t: &mut [u32],
-    k: &mut [u8],
-    p: &mut [u8],
-    s: &mut [u8],
-    b: &mut [u16],
-    r: &mut [u32],
-    u: &mut [u8],
-) -> Window {
-    let mut v = w;
+fn pass_parity(sender: Side, to: Side, stream: u8) -> Side {
+    let mut v = to;
     let mut j: u8 = 0;
     while j < 4 {
-        let packet = parity_packet(x, stream, j, sm, st, sk, sp, ss, sb, sr, su);
-        let next = offer_one(
-            v,
-            stream,
-            start_of(stream, j),
-            &packet,
-            m,
-            t,
-            k,
-            p,
-            s,
-            b,
-            r,
-            u,
-        );
+        let packet = parity_packet(sender, stream, j);
+        let next = offer_one(v, stream, start_of(stream, j), &packet);
         v = next;
         j += 1;
     }
     v
 }
 
-// A column whose last member lies outside the window.
-fn offer_outside(
-    w: Window,
-    m: &mut [u8],
-    t: &mut [u32],
-    k: &mut [u8],
-    p: &mut [u8],
-    s: &mut [u8],
-    b: &mut [u16],
-    r: &mut [u32],
-    u: &mut [u8],
-) -> Window {
+// A column that starts so late that its last member, 10, lies outside the window.
+fn offer_outside(to: Side) -> Side {
     let mut packet = [0u8; 216];
     rtp::write_rtp(&mut packet, rtp::PARITY_TYPE, 8, 0, 0);
     rtp::write_fec(&mut packet, 65534, 0, 0, 0, rtp::COLUMN, 4, 4);
-    offer_one(w, 0, 65534, &packet, m, t, k, p, s, b, r, u)
+    offer_one(to, side::COLUMN, 65534, &packet)
 }
 
-// ---- what was rebuilt, against what was sent
-
-// The packet of a position reads out of both windows, and the same.
-fn same_packet(
-    x: Window,
-    w: Window,
-    i: u8,
-    sm: &[u8],
-    st: &[u32],
-    sk: &[u8],
-    sp: &[u8],
-    ss: &[u8],
-    sb: &[u16],
-    sr: &[u32],
-    su: &[u8],
-    m: &[u8],
-    t: &[u32],
-    k: &[u8],
-    p: &[u8],
-    s: &[u8],
-    b: &[u16],
-    r: &[u32],
-    u: &[u8],
-) -> bool {
-    let mut sent = [0u8; 200];
-    let mut got = [0u8; 200];
-    let a = reading::read_out(x, number_of(i), sm, st, sk, sp, ss, sb, sr, su, &mut sent);
-    let c = reading::read_out(w, number_of(i), m, t, k, p, s, b, r, u, &mut got);
-    (answer::number(a) == 0) & (answer::number(c) == 0) & xor::same_at(&sent, 0, &got, 0, 200)
-}
+// ---- whether the rebuilt packets are the sent ones
 
 // 1 for true, 0 for false.
 fn one_if(is: bool) -> u8
@@ -351,52 +192,19 @@ fn count_rebuilt(marks: &[u8]) -> u8 {
     rebuilt
 }
 
-// How many of the lost packets are there now and equal to the sent ones.
-fn count_equal(
-    x: Window,
-    w: Window,
-    sm: &[u8],
-    st: &[u32],
-    sk: &[u8],
-    sp: &[u8],
-    ss: &[u8],
-    sb: &[u16],
-    sr: &[u32],
-    su: &[u8],
-    m: &[u8],
-    t: &[u32],
-    k: &[u8],
-    p: &[u8],
-    s: &[u8],
-    b: &[u16],
-    r: &[u32],
-    u: &[u8],
-) -> u8 {
+// The packet of a position, read out on both sides, is the same.
+fn same_packet(sender: Side, to: Side, i: u8) -> bool {
+    let sent = side::packet(sender, number_of(i));
+    let got = side::packet(to, number_of(i));
+    (sent[0] == 128) & xor::same_at(&sent, 0, &got, 0, 200)
+}
+
+// How many of the lost packets are there again, and the same.
+fn count_equal(sender: Side, to: Side) -> u8 {
     let mut equal: u8 = 0;
     let mut i: u8 = 0;
     while i < 16 {
-        let same = same_packet(
-            x,
-            w,
-            i,
-            sm,
-            st,
-            sk,
-            sp,
-            ss,
-            sb,
-            sr,
-            su,
-            m,
-            t,
-            k,
-            p,
-            s,
-            b,
-            r,
-            u,
-        );
-        equal += one_if(lost(i) & same);
+        equal += one_if(lost(i) & same_packet(sender, to, i));
         i += 1;
     }
     equal
@@ -435,186 +243,32 @@ fn print_rounds() {
     );
 }
 
-// The receiver: its own window, what arrives, and what it makes of the parity.
-fn receive(
-    x: Window,
-    sm: &[u8],
-    st: &[u32],
-    sk: &[u8],
-    sp: &[u8],
-    ss: &[u8],
-    sb: &[u16],
-    sr: &[u32],
-    su: &[u8],
-) {
-    let mut m = [0u8; 3008];
-    let mut t = [0u32; 16];
-    let mut k = [0u8; 16];
-    let mut p = [0u8; 1504];
-    let mut s = [0u8; 8];
-    let mut b = [0u16; 8];
-    let mut r = [0u32; 8];
-    let mut u = [0u8; 8];
-    let o = opening::open(
-        BASE,
-        SOURCE,
-        4,
-        4,
-        188,
-        16,
-        8,
-        &mut m,
-        &mut t,
-        &mut k,
-        &mut p,
-        &mut s,
-        &mut b,
-        &mut r,
-        &mut u,
-    );
-    let opened = o.window;
-    let held = deliver_all(
-        opened,
-        true,
-        &mut m,
-        &mut t,
-        &mut k,
-        &mut p,
-        &mut s,
-        &mut b,
-        &mut r,
-        &mut u,
-    );
-    io::write_all(
-        STDOUT_FILENO,
-        b"\nBefore parity, as the packets came, the last first:\n",
-    );
-    print_grid(&k);
-    io::write_all(STDOUT_FILENO, b"\nParity, the columns and then the rows:\n");
-    let c = pass_parity(
-        x,
-        held,
-        0,
-        sm,
-        st,
-        sk,
-        sp,
-        ss,
-        sb,
-        sr,
-        su,
-        &mut m,
-        &mut t,
-        &mut k,
-        &mut p,
-        &mut s,
-        &mut b,
-        &mut r,
-        &mut u,
-    );
-    let d = pass_parity(
-        x,
-        c,
-        1,
-        sm,
-        st,
-        sk,
-        sp,
-        ss,
-        sb,
-        sr,
-        su,
-        &mut m,
-        &mut t,
-        &mut k,
-        &mut p,
-        &mut s,
-        &mut b,
-        &mut r,
-        &mut u,
-    );
-    print_rounds();
-    io::write_all(STDOUT_FILENO, b"\nAfter parity:\n");
-    print_grid(&k);
-    io::write_all(
-        STDOUT_FILENO,
-        b"\nA column with a member, 10, outside the window is refused:\n",
-    );
-    let w = offer_outside(
-        d,
-        &mut m,
-        &mut t,
-        &mut k,
-        &mut p,
-        &mut s,
-        &mut b,
-        &mut r,
-        &mut u,
-    );
-    print_count(
-        count_equal(
-            x,
-            w,
-            sm,
-            st,
-            sk,
-            sp,
-            ss,
-            sb,
-            sr,
-            su,
-            &m,
-            &t,
-            &k,
-            &p,
-            &s,
-            &b,
-            &r,
-            &u,
-        ),
-        count_rebuilt(&k),
-    );
+// The marks of the positions, as a grid.
+fn print_side(side: Side) {
+    let marks = side.marks;
+    print_grid(&marks);
 }
 
 fn main() {
     print_title();
-    let mut m = [0u8; 3008];
-    let mut t = [0u32; 16];
-    let mut k = [0u8; 16];
-    let mut p = [0u8; 1504];
-    let mut s = [0u8; 8];
-    let mut b = [0u16; 8];
-    let mut r = [0u32; 8];
-    let mut u = [0u8; 8];
-    let o = opening::open(
-        BASE,
-        SOURCE,
-        4,
-        4,
-        188,
-        16,
-        8,
-        &mut m,
-        &mut t,
-        &mut k,
-        &mut p,
-        &mut s,
-        &mut b,
-        &mut r,
-        &mut u,
+    let sender = deliver_all(side::open(), false);
+    let held = deliver_all(side::open(), true);
+    io::write_all(
+        STDOUT_FILENO,
+        b"\nBefore parity, as the packets came, the last first:\n",
     );
-    let opened = o.window;
-    let x = deliver_all(
-        opened,
-        false,
-        &mut m,
-        &mut t,
-        &mut k,
-        &mut p,
-        &mut s,
-        &mut b,
-        &mut r,
-        &mut u,
+    print_side(held);
+    io::write_all(STDOUT_FILENO, b"\nParity, the columns and then the rows:\n");
+    let some = pass_parity(sender, held, side::COLUMN);
+    let all = pass_parity(sender, some, side::ROW);
+    print_rounds();
+    io::write_all(STDOUT_FILENO, b"\nAfter parity:\n");
+    print_side(all);
+    io::write_all(
+        STDOUT_FILENO,
+        b"\nA column with a member, 10, outside the window is refused:\n",
     );
-    receive(x, &m, &t, &k, &p, &s, &b, &r, &u);
+    let last = offer_outside(all);
+    let marks = last.marks;
+    print_count(count_equal(sender, last), count_rebuilt(&marks));
 }

@@ -1,30 +1,29 @@
--- `demo::count_equal` ends, and its count fits: it is at most the positions passed. Assumes nothing.
-use Prim.Native.Nat.{_-_, _≤_}
-use native.Mathlib.Omega.{arith}
+-- `demo::count_equal` ends, and stays within its bounds. Assumes nothing.
+use Prim.Native.Nat.{_≤_, _-_}
 use borrow.Author.Needs.{needs}
 use Rattle.demo.proofs.count_equal.Statement.{statement}
 use Rattle.demo.proofs.count_equal.Tie as tie
 
 abbrev Inv-loop : tie.InvT-loop
-Inv-loop x w sm st sk sp ss sb sr su m t k p s b r u equal₀ i₀ equal i = (i ≤ 16) × (equal ≤ i)
+Inv-loop sender to equal₀ i₀ equal i = (i ≤ 16) × (equal ≤ i)
 
 abbrev μ-loop : tie.MeasureT-loop
-μ-loop x w sm st sk sp ss sb sr su m t k p s b r u equal₀ i₀ equal i = 16 - i
+μ-loop sender to equal₀ i₀ equal i = 16 - i
 
 loop-holds : tie.Need-loop-holds Inv-loop μ-loop
 loop-holds c = search needs
 
-same-packet-requires : tie.Need-same-packet-requires Inv-loop μ-loop
-same-packet-requires c κs = search needs
-
 lost-requires : tie.Need-lost-requires Inv-loop μ-loop
 lost-requires c κs = search needs
+
+same-packet-requires : tie.Need-same-packet-requires Inv-loop μ-loop
+same-packet-requires c κs = search needs
 
 one-if-requires : tie.Need-one-if-requires Inv-loop μ-loop
 one-if-requires c κs = search needs
 
 add-equal : tie.Need-add-equal Inv-loop μ-loop
-add-equal c = omega (arith, c .one-if .ensures)
+add-equal c = search needs
 
 add-i : tie.Need-add-i Inv-loop μ-loop
 add-i c = search needs
@@ -33,7 +32,7 @@ loop-less : tie.Need-loop-less Inv-loop μ-loop
 loop-less c = search needs
 
 loop-again : tie.Need-loop-again Inv-loop μ-loop
-loop-again c = omega (arith, c .one-if .ensures)
+loop-again c = search needs
 
 returns : tie.Need-returns Inv-loop μ-loop
 returns c = search needs
@@ -45,8 +44,8 @@ count-equal-spec =
     Inv-loop
     μ-loop
     loop-holds
-    same-packet-requires
     lost-requires
+    same-packet-requires
     one-if-requires
     add-equal
     add-i
