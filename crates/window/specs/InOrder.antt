@@ -1,12 +1,12 @@
 -- What refusal 5 leaves known: the store is in order.
-use mathlib.Core.Path.{_≡_, refl, ap}
+use mathlib.Core.Path.{_≡_, refl, ap, _∙_}
 use mathlib.Core.Bool.{Bool, true, false, not, _&&_, _||_}
 use mathlib.Core.List.{List, []}
 use Prim.Native.Nat.{ℕ, _<_, _≤_}
-use lib.Dec.{eqb, leb}
+use lib.Dec.{eqb, leb, ltb}
 use lib.ListN.{length, getD}
 use borrow.Author.Tests.{leb-true, le-leb, ltb-true, lt-ltb, eqb-true, eq-eqb, not-true, not-false}
-use Rattle.sequence.specs.Lists.{upTo, all, any, count, and-split, all-true, true-all, any-false, false-any}
+use Rattle.sequence.specs.Lists.{upTo, all, any, count, and-split, all-true, true-all, any-false, false-any, any-count}
 use Rattle.rtp.specs.Faults.{noRow}
 use Rattle.window.specs.declared.Window.{Window}
 use Rattle.window.specs.Store.{Store, streamAt, snbaseAt}
@@ -104,6 +104,14 @@ waits-good w s r h =
     (both (both (le-leb (streamAt s r) 1 (g .stream-high)) (ap not (g .row-permitted))) (g .lies-inside))
     (ap not (false-any (λ q. inUse s q && sameGroup s q r) r (λ q l. apart (inUse s q) (sameGroup s q r) (g .is-first q l)))))
     (lt-ltb 1 (length (missing s (groupAt w s r))) (g .lacks-two)))
+
+-- no record of which none is in use is in use
+pub none-in-use : (s : Store) (n : ℕ) → count (inUse s) (upTo n) ≡ 0 → (r : ℕ) → r < n → inUse s r ≡ false
+none-in-use s n e = any-false (inUse s) n (any-count (inUse s) (upTo n) ∙ ap (ltb 0) e)
+
+-- where none is in use every record is good
+pub free-good : (w : Window) (s : Store) (n : ℕ) → ((r : ℕ) → r < n → inUse s r ≡ false) → all (recordGood w s) (upTo n) ≡ true
+free-good w s n h = true-all (recordGood w s) n (λ r l. ap (λ (b : Bool). not b || (shapeGood w s r && isFirst s r && waiting w s r)) (h r l))
 
 pub order-in : (w : Window) (s : Store) → InOrder w s → disorder w s ≡ false
 unfolding disorder

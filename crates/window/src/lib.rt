@@ -245,11 +245,21 @@ impl Window {
             & (1 < lack(self.base, marks, stream, start, self.l, self.d))
     }
 
-    // Every record is good.
-    fn records_good(self, marks: &[u8], streams: &[u8], snbases: &[u16], uses: &[u8]) -> bool
-        requires { ⌜ SetUp self × (self .n ≤ length (now marks)) × (self .k ≤ length (now streams)) × (self .k ≤ length (now snbases)) × (self .k ≤ length (now uses)) ⌝ }
+    // Every record is good; where none of them is in use, that is known without a look at each.
+    fn records_good(
+        self,
+        marks: &[u8],
+        streams: &[u8],
+        snbases: &[u16],
+        uses: &[u8],
+        used: usize,
+    ) -> bool
+        requires { ⌜ SetUp self × (self .n ≤ length (now marks)) × (self .k ≤ length (now streams)) × (self .k ≤ length (now snbases)) × (self .k ≤ length (now uses)) × (used ≡ count (λ i. eqb (getD (now uses) i 0) 1) (upTo (self .k))) ⌝ }
         ensures { λ good. ⌜ good ≡ all (recordGood self (tables (now (marks .entry)) (now (streams .entry)) (now (snbases .entry)) (now (uses .entry)))) (upTo (self .k)) ⌝ }
     {
+        if used == 0 {
+            return true;
+        }
         let k = self.k;
         let mut good = true;
         let mut r = 0;
@@ -267,8 +277,9 @@ impl Window {
     {
         let n = self.n;
         let k = self.k;
+        let used = count_ones(uses, k);
         (good_marks(marks, n) & good_marks(uses, k))
-            & self.records_good(marks, streams, snbases, uses)
-            & ((self.present == count_ones(marks, n)) & (self.in_use == count_ones(uses, k)))
+            & self.records_good(marks, streams, snbases, uses, used)
+            & ((self.present == count_ones(marks, n)) & (self.in_use == used))
     }
 }
