@@ -1,7 +1,9 @@
 -- The table of records, and the array by value that is made of it and written back to it.
-use mathlib.Core.List.{List}
+use mathlib.Core.Bool.{Bool, true, _&&_}
+use mathlib.Core.List.{List, [], _∷_}
 use Prim.Native.Nat.{ℕ, min}
-use lib.ListN.{length, replicate}
+use lib.Dec.{eqb}
+use lib.ListN.{length, take, replicate}
 use lib.Seq.{paste}
 use Rattle.records.specs.declared.Record.{Record}
 
@@ -24,3 +26,12 @@ loaded table = paste blankRows 0 table (reached (length table) 128)
 -- a table with the first n of some rows over its first entries
 unfoldable pub saved : List Record → ℕ → List Record → List Record
 saved table n rows = paste table 0 rows (reached (length table) n)
+
+-- none of some records is in use
+abbrev pub free : List Record → Bool
+free [] = true
+free (r ∷ rs) = eqb (r .«in_use») 0 && free rs
+
+-- none of the first n entries of a table is in use, nor of its first 128 where n is more
+unfoldable pub allFree : List Record → ℕ → Bool
+allFree table n = free (take (reached (length table) n) table)

@@ -1,3 +1,4 @@
 pub mod Table
 pub mod Work
 pub mod Whole
+pub mod Idle

@@ -58,7 +58,7 @@ module _ (q : ℕ) (y : Lent) where
   records-back = ap (λ (n : ℕ). map (recordAt (columns q y)) (upTo n)) (length-map rs (λ (r : Record). r .«in_use»)) ∙ first-back (length rs) (omega arith) ∙ take-length rs
 
   -- put back over a table
-  put-columns : (table : List Record) → putBack (columns q y) table ≡ record { media = y .media; timestamps = y .timestamps; marks = y .marks; parity = y .parity; records = rs ++ drop (length rs) table }
+  pub put-columns : (table : List Record) → putBack (columns q y) table ≡ record { media = y .media; timestamps = y .timestamps; marks = y .marks; parity = y .parity; records = rs ++ drop (length rs) table }
   put-columns table = λ j. record {
     media = y .media;
     timestamps = y .timestamps;
@@ -68,7 +68,7 @@ module _ (q : ℕ) (y : Lent) where
   }
 
 -- a table's own first records put back over it are the table
-own-back : (q : ℕ) (ts : List Record) → take q ts ++ drop (length (take q ts)) ts ≡ ts
+pub own-back : (q : ℕ) (ts : List Record) → take q ts ++ drop (length (take q ts)) ts ≡ ts
 own-back zero ts = refl
 own-back (suc q) [] = refl
 own-back (suc q) (t ∷ ts) = ap (λ (l : List Record). t ∷ l) (own-back q ts)
@@ -76,7 +76,7 @@ own-back (suc q) (t ∷ ts) = ap (λ (l : List Record). t ∷ l) (own-back q ts)
 -- ---- load and save
 
 -- a take past the end is a take of all
-take-few : (ts : List Record) (a b : ℕ) → b ≡ min (length ts) a → take b ts ≡ take a ts
+pub take-few : (ts : List Record) (a b : ℕ) → b ≡ min (length ts) a → take b ts ≡ take a ts
 take-few [] a b e = let z : b ≡ 0 = omega (arith, e) in ap (λ (n : ℕ). take n []) z ∙ sym (take-all a [] (omega arith))
 take-few (t ∷ ts) zero b e = let z : b ≡ 0 = omega (arith, e) in ap (λ (n : ℕ). take n (t ∷ ts)) z
 take-few (t ∷ ts) (suc a) zero e = absurd (omega (arith, e))

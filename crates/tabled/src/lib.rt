@@ -3,14 +3,16 @@ use answer::Answer;
 use records::Record;
 use window::Window;
 ghost use mathlib.Core.Path.{_≡_};
-ghost use mathlib.Core.Bool.{cond};
+ghost use mathlib.Core.Bool.{cond, true};
+ghost use mathlib.Core.List.{List};
 ghost use Prim.Native.Nat.{_≤_};
 ghost use lib.Dec.{eqb};
 ghost use lib.ListN.{length};
 ghost use Rattle.rtp.specs.Fec.{column, row};
 ghost use Rattle.calls.specs.Call.{asked, opened, offeredMedia, offeredParity, readOut, wroteParity};
-ghost use Rattle.records.specs.Table.{reached};
-ghost use Rattle.tabled.specs.Table.{numbered, columns, filled};
+ghost use Rattle.records.specs.declared.Record.{Record};
+ghost use Rattle.records.specs.Table.{reached, allFree};
+ghost use Rattle.tabled.specs.Table.{numbered, columns, filled, mediaTable, readTable, wroteTable};
 ghost use Rattle.tabled.specs.Work.{Alike, Worked};
 
 // An answer by document 01's number and count, and the next window value.
@@ -496,6 +498,183 @@ pub fn write_row_rows(
         marks,
         parity,
         rows,
+        len,
+        out,
+    )
+}
+
+// ---- with no record in use: the table is not needed, columns of zeros stand for it
+
+// A media datagram is offered to a window whose table has no record in use.
+pub fn media_idle(
+    w: Window,
+    datagram: &[u8],
+    media: &mut [u8],
+    timestamps: &mut [u32],
+    marks: &mut [u8],
+    parity: &mut [u8],
+    len: usize,
+) -> Reply
+    ensures { λ r. ⌜ ((records : List Record) → length records ≡ len → allFree records (w .k) ≡ true → record { reply = r; lent = record { media = now (media .exit); timestamps = now (timestamps .exit); marks = now (marks .exit); parity = now (parity .exit); records = records } } ≡ mediaTable w (now (datagram .entry)) (record { media = now (media .entry); timestamps = now (timestamps .entry); marks = now (marks .entry); parity = now (parity .entry); records = records })) ⌝ }
+{
+    let m = records::reach(len, w.k);
+    let mut streams = [0u8; 128];
+    let mut snbases = [0u16; 128];
+    let mut recoveries = [0u32; 128];
+    let mut uses = [0u8; 128];
+    let r = offering::offer_media(
+        w,
+        datagram,
+        media,
+        timestamps,
+        marks,
+        parity,
+        &mut streams[..m],
+        &mut snbases[..m],
+        &mut recoveries[..m],
+        &mut uses[..m],
+    );
+    let answer = r.answer;
+    let window = r.window;
+    by_number(answer, window)
+}
+
+// A packet is read out of a window whose table has no record in use.
+pub fn read_idle(
+    w: Window,
+    number: u16,
+    media: &[u8],
+    timestamps: &[u32],
+    marks: &[u8],
+    parity: &[u8],
+    len: usize,
+    out: &mut [u8],
+) -> Reply
+    ensures { λ r. ⌜ ((records : List Record) → length records ≡ len → allFree records (w .k) ≡ true → record { reply = r; out = now (out .exit) } ≡ readTable w number (record { media = now (media .entry); timestamps = now (timestamps .entry); marks = now (marks .entry); parity = now (parity .entry); records = records }) (now (out .entry))) ⌝ }
+{
+    let m = records::reach(len, w.k);
+    let streams = [0u8; 128];
+    let snbases = [0u16; 128];
+    let recoveries = [0u32; 128];
+    let uses = [0u8; 128];
+    let answer = reading::read_out(
+        w,
+        number,
+        media,
+        timestamps,
+        marks,
+        parity,
+        &streams[..m],
+        &snbases[..m],
+        &recoveries[..m],
+        &uses[..m],
+        out,
+    );
+    by_number(answer, w)
+}
+
+// The parity packet of a group is written from a window whose table has no record in use.
+fn write_idle(
+    stream: u8,
+    w: Window,
+    start: u16,
+    sequence: u16,
+    timestamp: u32,
+    ssrc: u32,
+    media: &[u8],
+    timestamps: &[u32],
+    marks: &[u8],
+    parity: &[u8],
+    len: usize,
+    out: &mut [u8],
+) -> Reply
+    requires { ⌜ stream ≤ 1 ⌝ }
+    ensures { λ r. ⌜ ((records : List Record) → length records ≡ len → allFree records (w .k) ≡ true → record { reply = r; out = now (out .exit) } ≡ wroteTable stream w start (record { sequence = sequence; timestamp = timestamp; ssrc = ssrc }) (record { media = now (media .entry); timestamps = now (timestamps .entry); marks = now (marks .entry); parity = now (parity .entry); records = records }) (now (out .entry))) ⌝ }
+{
+    let m = records::reach(len, w.k);
+    let streams = [0u8; 128];
+    let snbases = [0u16; 128];
+    let recoveries = [0u32; 128];
+    let uses = [0u8; 128];
+    let answer = reading::write_parity(
+        stream,
+        w,
+        start,
+        sequence,
+        timestamp,
+        ssrc,
+        media,
+        timestamps,
+        marks,
+        parity,
+        &streams[..m],
+        &snbases[..m],
+        &recoveries[..m],
+        &uses[..m],
+        out,
+    );
+    by_number(answer, w)
+}
+
+// Of a column.
+pub fn write_column_idle(
+    w: Window,
+    start: u16,
+    sequence: u16,
+    timestamp: u32,
+    ssrc: u32,
+    media: &[u8],
+    timestamps: &[u32],
+    marks: &[u8],
+    parity: &[u8],
+    len: usize,
+    out: &mut [u8],
+) -> Reply
+    ensures { λ r. ⌜ ((records : List Record) → length records ≡ len → allFree records (w .k) ≡ true → record { reply = r; out = now (out .exit) } ≡ wroteTable column w start (record { sequence = sequence; timestamp = timestamp; ssrc = ssrc }) (record { media = now (media .entry); timestamps = now (timestamps .entry); marks = now (marks .entry); parity = now (parity .entry); records = records }) (now (out .entry))) ⌝ }
+{
+    write_idle(
+        rtp::COLUMN,
+        w,
+        start,
+        sequence,
+        timestamp,
+        ssrc,
+        media,
+        timestamps,
+        marks,
+        parity,
+        len,
+        out,
+    )
+}
+
+// Of a row.
+pub fn write_row_idle(
+    w: Window,
+    start: u16,
+    sequence: u16,
+    timestamp: u32,
+    ssrc: u32,
+    media: &[u8],
+    timestamps: &[u32],
+    marks: &[u8],
+    parity: &[u8],
+    len: usize,
+    out: &mut [u8],
+) -> Reply
+    ensures { λ r. ⌜ ((records : List Record) → length records ≡ len → allFree records (w .k) ≡ true → record { reply = r; out = now (out .exit) } ≡ wroteTable row w start (record { sequence = sequence; timestamp = timestamp; ssrc = ssrc }) (record { media = now (media .entry); timestamps = now (timestamps .entry); marks = now (marks .entry); parity = now (parity .entry); records = records }) (now (out .entry))) ⌝ }
+{
+    write_idle(
+        rtp::ROW,
+        w,
+        start,
+        sequence,
+        timestamp,
+        ssrc,
+        media,
+        timestamps,
+        marks,
+        parity,
         len,
         out,
     )
