@@ -2,7 +2,7 @@
 use mathlib.Core.Path.{_≡_, refl, sym, ap, _∙_}
 use native.Mathlib.Omega.{arith}
 use Rattle.settle.specs.Scan.{stored}
-use Rattle.offering.proofs.Good.{standing-refuses, datagram-refuses, place-decides, standing-here, long-here, four}
+use Rattle.accepting.proofs.Good.{standing-refuses, datagram-refuses, place-decides, standing-here, long-here, four}
 use Rattle.rtp.specs.Faults.{mediaTests}
 use Rattle.calls.specs.Call.{mediaPlaceTests}
 use borrow.Author.Needs.{needs}

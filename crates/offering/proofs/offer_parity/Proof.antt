@@ -1,7 +1,7 @@
 -- `offering::offer_parity` meets its contract: refused by the first test that applies, or accepted. Assumes nothing.
 use mathlib.Core.Path.{_≡_, refl, sym, ap, _∙_}
 use Rattle.settle.specs.Scan.{stored}
-use Rattle.offering.proofs.Good.{parity-refused, parity-taken}
+use Rattle.accepting.proofs.Good.{parity-refused, parity-taken}
 use borrow.Author.Needs.{needs}
 use Rattle.offering.proofs.offer_parity.Statement.{statement}
 use Rattle.offering.proofs.offer_parity.Tie as tie

@@ -3,7 +3,7 @@ use mathlib.Core.Path.{_≡_, refl, sym, ap, _∙_}
 use Rattle.settle.specs.Scan.{stored}
 use Rattle.rtp.specs.Faults.{parityTests}
 use Rattle.calls.specs.Call.{parityPlaceTests}
-use Rattle.offering.proofs.Good.{standing-refuses, datagram-refuses, place-decides, standing-here, parity-long, seven}
+use Rattle.accepting.proofs.Good.{standing-refuses, datagram-refuses, place-decides, standing-here, parity-long, seven}
 use borrow.Author.Needs.{needs}
 use Rattle.offering.proofs.parity_offer_fault.Statement.{statement}
 use Rattle.offering.proofs.parity_offer_fault.Tie as tie

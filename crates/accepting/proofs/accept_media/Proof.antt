@@ -1,4 +1,4 @@
--- `offering::accept_media` meets its contract: the packet is put in its place, then all is settled. Assumes nothing.
+-- `accepting::accept_media` meets its contract: the packet is put in its place, then all is settled. Assumes nothing.
 use mathlib.Core.Path.{_≡_, refl, sym, ap, _∙_}
 use native.Mathlib.Omega.{arith}
 use Prim.Native.Nat.{ℕ, _<_, _+_}
@@ -6,10 +6,10 @@ use lib.ListN.{set, length-set}
 use Rattle.sequence.specs.Wrap.{ahead}
 use Rattle.settle.specs.Scan.{stored}
 use Rattle.settle.proofs.Members.{row-ends}
-use Rattle.offering.proofs.Good.{media-good, accept-asks, accept-is, outcome-is, few-present, few-used}
+use Rattle.accepting.proofs.Good.{media-good, accept-asks, accept-is, outcome-is, few-present, few-used}
 use borrow.Author.Needs.{needs}
-use Rattle.offering.proofs.accept_media.Statement.{statement}
-use Rattle.offering.proofs.accept_media.Tie as tie
+use Rattle.accepting.proofs.accept_media.Statement.{statement}
+use Rattle.accepting.proofs.accept_media.Tie as tie
 
 sequence-number-requires : tie.Need-sequence-number-requires
 sequence-number-requires c κs = search needs

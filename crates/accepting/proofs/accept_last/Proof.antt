@@ -1,12 +1,12 @@
--- `offering::accept_last` meets its contract: the missing packet is rebuilt, then all is settled. Assumes nothing.
+-- `accepting::accept_last` meets its contract: the missing packet is rebuilt, then all is settled. Assumes nothing.
 use mathlib.Core.Path.{_≡_, refl, sym, ap, _∙_}
 use native.Mathlib.Omega.{arith}
 use Prim.Native.Nat.{_+_}
 use Rattle.settle.specs.Scan.{stored}
-use Rattle.offering.proofs.Good.{start-inside, last-near, last-is, accept-asks, outcome-is, few-present, few-used}
+use Rattle.accepting.proofs.Good.{start-inside, last-near, last-is, accept-asks, outcome-is, few-present, few-used}
 use borrow.Author.Needs.{needs}
-use Rattle.offering.proofs.accept_last.Statement.{statement}
-use Rattle.offering.proofs.accept_last.Tie as tie
+use Rattle.accepting.proofs.accept_last.Statement.{statement}
+use Rattle.accepting.proofs.accept_last.Tie as tie
 
 snbase-requires : tie.Need-snbase-requires
 snbase-requires c κs = search needs

@@ -30,7 +30,7 @@ use Rattle.holding.proofs.Held.{kept-held, rest-all}
 use Rattle.holding.proofs.Free.{free-below}
 use Rattle.calls.specs.Call.{Outcome, standingTests, mediaPlaceTests, mediaOfferTests, parityPlaceTests, parityOfferTests, refused, settled, start, offeredMedia, offeredParity}
 use Rattle.calls.specs.Accept.{acceptMedia, acceptParity, recoveryOf, firstFree}
-use Rattle.offering.specs.Good.{ParityGood}
+use Rattle.accepting.specs.Good.{ParityGood}
 use Rattle.calls.specs.Standing.{Standing, standing-good, standing-stops, standing-goes}
 
 -- ---- a standing window serves settling

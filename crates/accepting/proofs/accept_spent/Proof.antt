@@ -1,11 +1,11 @@
--- `offering::accept_spent` meets its contract: all is settled as it stands. Assumes nothing.
+-- `accepting::accept_spent` meets its contract: all is settled as it stands. Assumes nothing.
 use mathlib.Core.Path.{_≡_, refl, sym, ap, _∙_}
 use native.Mathlib.Omega.{arith}
 use Rattle.settle.specs.Scan.{stored}
-use Rattle.offering.proofs.Good.{accept-asks, outcome-is, few-present, few-used}
+use Rattle.accepting.proofs.Good.{accept-asks, outcome-is, few-present, few-used}
 use borrow.Author.Needs.{needs}
-use Rattle.offering.proofs.accept_spent.Statement.{statement}
-use Rattle.offering.proofs.accept_spent.Tie as tie
+use Rattle.accepting.proofs.accept_spent.Statement.{statement}
+use Rattle.accepting.proofs.accept_spent.Tie as tie
 
 settle-requires : tie.Need-settle-requires
 settle-requires c κs =

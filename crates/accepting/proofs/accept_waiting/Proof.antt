@@ -1,4 +1,4 @@
--- `offering::accept_waiting` meets its contract: the packet goes into the first free record, then all is settled. Assumes nothing.
+-- `accepting::accept_waiting` meets its contract: the packet goes into the first free record, then all is settled. Assumes nothing.
 use mathlib.Core.Path.{_≡_, refl, sym, ap, _∙_}
 use native.Mathlib.Omega.{arith}
 use Prim.Native.Nat.{ℕ}
@@ -8,10 +8,10 @@ use Rattle.calls.specs.Accept.{recoveryOf}
 use Rattle.calls.specs.Call.{start}
 use Rattle.settle.specs.State.{hold}
 use Rattle.settle.specs.Scan.{stored}
-use Rattle.offering.proofs.Good.{start-inside, free-near, held-asks, outcome-is, few-used}
+use Rattle.accepting.proofs.Good.{start-inside, free-near, held-asks, outcome-is, few-used}
 use borrow.Author.Needs.{needs}
-use Rattle.offering.proofs.accept_waiting.Statement.{statement}
-use Rattle.offering.proofs.accept_waiting.Tie as tie
+use Rattle.accepting.proofs.accept_waiting.Statement.{statement}
+use Rattle.accepting.proofs.accept_waiting.Tie as tie
 
 first-free-requires : tie.Need-first-free-requires
 first-free-requires c κs = search needs

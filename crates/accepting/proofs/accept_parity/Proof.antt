@@ -1,4 +1,4 @@
--- `offering::accept_parity` meets its contract: each return is a way through `takeParity`. Assumes nothing.
+-- `accepting::accept_parity` meets its contract: each return is a way through `takeParity`. Assumes nothing.
 use mathlib.Core.Path.{_≡_, refl, sym, ap, _∙_}
 use native.Mathlib.Omega.{arith}
 use Rattle.rtp.specs.Fec.{snbase}
@@ -8,10 +8,10 @@ use Rattle.calls.specs.Accept.{recoveryOf}
 use Rattle.calls.specs.Call.{settled, start}
 use Rattle.settle.specs.Scan.{stored}
 use Rattle.holding.proofs.Held.{take-none, take-one, take-more}
-use Rattle.offering.proofs.Good.{parity-good, parity-room, start-inside, lack-is}
+use Rattle.accepting.proofs.Good.{parity-good, parity-room, start-inside, lack-is}
 use borrow.Author.Needs.{needs}
-use Rattle.offering.proofs.accept_parity.Statement.{statement}
-use Rattle.offering.proofs.accept_parity.Tie as tie
+use Rattle.accepting.proofs.accept_parity.Statement.{statement}
+use Rattle.accepting.proofs.accept_parity.Tie as tie
 
 snbase-requires : tie.Need-snbase-requires
 snbase-requires c κs = search needs
