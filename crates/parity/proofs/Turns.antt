@@ -1,4 +1,4 @@
--- A turn of each loop: one member more, one timestamp more, one row or four rows more. Assumes nothing.
+-- A turn of each loop: one member more, one timestamp more, some rows more. Assumes nothing.
 use mathlib.Core.Path.{_≡_, refl, sym, ap, _∙_}
 use mathlib.Core.Bool.{true, false, cond}
 use mathlib.Core.List.{List, [], _∷_, _++_, append-nil, map}
@@ -6,7 +6,7 @@ use Prim.Native.Nat.{ℕ, zero, suc, _+_, _*_, _<_, _≤_}
 use native.Mathlib.Numerals.{add-one}
 use native.Mathlib.Omega.{arith}
 use lib.ListN.{length, getD, take, drop, set, take-append-drop, drop-of-length-le, length-take}
-use lib.Seq.{take-add, drop-cons, take-suc, take-suc-set, take-take, drop-append-le, length-take-le}
+use lib.Seq.{take-add, drop-at, drop-cons, take-suc, take-suc-set, take-take, drop-append-le, length-take-le}
 use lib.Bits.{bitXor, xor-zero-r}
 use Rattle.sequence.specs.Lists.{upTo, keep, keep-append, map-append}
 use Rattle.xor.specs.Xor.{xorAll, xorAt, xorParts}
@@ -57,45 +57,38 @@ listed-is l i (suc k) j h =
     let e : suc (i + j) ≡ i + suc j = omega arith in
     ap (take (suc k)) (drop-cons l (i + j) 0 (omega (arith, h))) ∙ ap (λ (m : ℕ). getD l (i + j) 0 ∷ take k (drop m l)) e ∙ ap (λ (m : List ℕ). getD l (i + j) 0 ∷ m) (listed-is l i k (suc j) (omega (arith, h)))
 
-module _ (media rows : List ℕ) (at p : ℕ) (d : List ℕ) where
-  row-more : (l : List ℕ) (x : ℕ) → xorAt (xorParts media (places p l) at p d) at (drop (x * p) media) p ≡ xorParts media (places p (l ++ (x ∷ []))) at p d
-  row-more l x = sym (ap (λ (m : List ℕ). xorParts media m at p d) (map-append (λ k. k * p) l (x ∷ [])) ∙ parts-append media (places p l) ((x * p) ∷ []) at p d)
+-- k elements from index i on, as the code reads them: at i, i + 1, i + 2 and so on
+abbrev pub next : List ℕ → (i k : ℕ) → List ℕ
+next l i zero = []
+next l i (suc k) = getD l i 0 ∷ listed l i k 1
 
-  pub rest-row : (from i : ℕ) → from ≤ i → i < length rows
-      → xorAt (xorParts media (places p (drop from (take i rows))) at p d) at (drop (getD rows i 0 * p) media) p ≡ xorParts media (places p (drop from (take (i + 1) rows))) at p d
-  rest-row from i f h =
-      row-more (drop from (take i rows)) (getD rows i 0)
-      ∙ ap (λ (l : List ℕ). xorParts media (places p l) at p d)
-      (sym (ap (drop from) (take-more rows i h) ∙ drop-append-le from (take i rows) (getD rows i 0 ∷ []) (rw (length-take-le i rows (omega arith)) f)))
+next-is : (l : List ℕ) (i k : ℕ) → i + k ≤ length l → drop i (take (i + k) l) ≡ next l i k
+next-is l i k h =
+    ap (drop i) (take-add i k l) ∙ drop-at (take i l) (take k (drop i l)) i (length-take-le i l (omega arith)) ∙ go k h
+  where
+    go : (k : ℕ) → i + k ≤ length l → take k (drop i l) ≡ next l i k
+    go zero h = refl
+    go (suc k) h =
+        ap (take (suc k)) (drop-cons l i 0 (omega (arith, h))) ∙ ap (λ (m : ℕ). getD l i 0 ∷ take k (drop m l)) (sym (add-one i)) ∙ ap (λ (m : List ℕ). getD l i 0 ∷ m) (listed-is l i k 1 (omega (arith, h)))
 
+module _ (media rows : List ℕ) (at p : ℕ) (d : List ℕ) (from : ℕ) where
   -- no row yet
-  pub none-yet : (from : ℕ) → d ≡ xorParts media (places p (drop from (take from rows))) at p d
-  none-yet from = ap (λ (l : List ℕ). xorParts media (places p l) at p d) (sym (drop-of-length-le (take from rows) {i = from} (omega (arith, length-take from rows))))
+  pub none-yet : d ≡ xorParts media (places p (drop from (take from rows))) at p d
+  none-yet = ap (λ (l : List ℕ). xorParts media (places p l) at p d) (sym (drop-of-length-le (take from rows) {i = from} (omega (arith, length-take from rows))))
 
-  -- the first rows, then the rest
-  pub rows-then : (r n : ℕ) → r ≤ n → xorParts media (places p (drop r (take n rows))) at p (xorParts media (places p (take r rows)) at p d) ≡ xorParts media (places p (take n rows)) at p d
-  rows-then r n h =
-      sym (parts-append media (places p (take r rows)) (places p (drop r (take n rows))) at p d)
+  -- the rows up to r, then those up to n
+  pub rows-then : (r n : ℕ) → from ≤ r → r ≤ n → n ≤ length rows
+      → xorParts media (places p (drop r (take n rows))) at p (xorParts media (places p (drop from (take r rows))) at p d) ≡ xorParts media (places p (drop from (take n rows))) at p d
+  rows-then r n f h long =
+      let rest : List ℕ = drop r (take n rows) in
+      let size : length (take r rows) ≡ r = length-take-le r rows (omega arith) in
+      sym (parts-append media (places p (drop from (take r rows))) (places p rest) at p d)
       ∙ ap (λ (l : List ℕ). xorParts media l at p d)
-      (sym (map-append (λ k. k * p) (take r rows) (drop r (take n rows))) ∙ ap (places p) (ap (λ (l : List ℕ). l ++ drop r (take n rows)) (sym (take-take r n rows h)) ∙ take-append-drop r (take n rows)))
+      (sym (map-append (λ k. k * p) (drop from (take r rows)) rest)
+      ∙ ap (places p) (sym (drop-append-le from (take r rows) rest (omega arith)) ∙ ap (drop from) (ap (λ (l : List ℕ). l ++ rest) (sym (take-take r n rows h)) ∙ take-append-drop r (take n rows))))
 
-  pub four-rows : (from i : ℕ) → from ≤ i → i + 4 ≤ length rows
-      → xorAt (xorAt (xorAt (xorAt (xorParts media (places p (drop from (take i rows))) at p d) at (drop (getD rows i 0 * p) media) p) at (drop (getD rows (i + 1) 0 * p) media) p) at (drop (getD rows (i + 2) 0 * p) media) p) at (drop (getD rows (i + 3) 0 * p) media) p
-      ≡ xorParts media (places p (drop from (take (i + 4) rows))) at p d
-  four-rows from i f h =
-      let e2 : i + 1 + 1 ≡ i + 2 = omega arith in
-      let e3 : i + 2 + 1 ≡ i + 3 = omega arith in
-      let e4 : i + 3 + 1 ≡ i + 4 = omega arith in
-      ap (λ (l : List ℕ). xorAt (xorAt (xorAt l at (drop (getD rows (i + 1) 0 * p) media) p) at (drop (getD rows (i + 2) 0 * p) media) p) at (drop (getD rows (i + 3) 0 * p) media) p) (rest-row from i (omega arith) (omega arith))
-      ∙ ap (λ (l : List ℕ). xorAt (xorAt l at (drop (getD rows (i + 2) 0 * p) media) p) at (drop (getD rows (i + 3) 0 * p) media) p) (rest-row from (i + 1) (omega arith) (omega arith) ∙ rw e2)
-      ∙ ap (λ (l : List ℕ). xorAt l at (drop (getD rows (i + 3) 0 * p) media) p) (rest-row from (i + 2) (omega arith) (omega arith) ∙ rw e3)
-      ∙ rest-row from (i + 3) (omega arith) (omega arith)
-      ∙ rw e4
-
-  pub ten-rows : (i : ℕ) → i + 10 ≤ length rows → xorParts media (getD rows i 0 * p ∷ getD rows (i + 1) 0 * p ∷ getD rows (i + 2) 0 * p ∷ getD rows (i + 3) 0 * p ∷ getD rows (i + 4) 0 * p ∷ getD rows (i + 5) 0 * p ∷ getD rows (i + 6) 0 * p ∷ getD rows (i + 7) 0 * p ∷ getD rows (i + 8) 0 * p ∷ getD rows (i + 9) 0 * p ∷ []) at p (xorParts media (places p (take i rows)) at p d) ≡ xorParts media (places p (take (i + 10) rows)) at p d
-  ten-rows i h =
-      let z : i + 0 ≡ i = omega arith in
-      sym (parts-append media (places p (take i rows)) (getD rows i 0 * p ∷ getD rows (i + 1) 0 * p ∷ getD rows (i + 2) 0 * p ∷ getD rows (i + 3) 0 * p ∷ getD rows (i + 4) 0 * p ∷ getD rows (i + 5) 0 * p ∷ getD rows (i + 6) 0 * p ∷ getD rows (i + 7) 0 * p ∷ getD rows (i + 8) 0 * p ∷ getD rows (i + 9) 0 * p ∷ []) at p d)
-      ∙ ap (λ (l : List ℕ). xorParts media l at p d)
-      (sym (ap (places p) (take-add i 10 rows ∙ ap (λ (k : ℕ). take i rows ++ take 10 (drop k rows)) (sym z) ∙ ap (λ (l : List ℕ). take i rows ++ l) (listed-is rows i 10 0 (omega arith)))
-      ∙ map-append (λ k. k * p) (take i rows) (listed rows i 10 0) ∙ ap (λ (k : ℕ). places p (take i rows) ++ ((getD rows k 0 * p) ∷ places p (listed rows i 9 1))) z))
+  -- k rows more
+  pub rows-more : (i k : ℕ) → from ≤ i → i + k ≤ length rows
+      → xorParts media (places p (next rows i k)) at p (xorParts media (places p (drop from (take i rows))) at p d) ≡ xorParts media (places p (drop from (take (i + k) rows))) at p d
+  rows-more i k f h =
+      ap (λ (l : List ℕ). xorParts media (places p l) at p (xorParts media (places p (drop from (take i rows))) at p d)) (sym (next-is rows i k h)) ∙ rows-then i (i + k) f (omega arith) h

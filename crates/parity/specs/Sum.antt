@@ -1,14 +1,14 @@
 -- Rows xored in one after another are the exclusive-or of their payloads, xored in once. Assumes nothing.
 use mathlib.Core.Path.{_≡_, refl, sym, ap, ap₂, _∙_}
 use mathlib.Core.List.{List, [], _∷_, _++_, map}
-use Prim.Native.Nat.{ℕ, zero, suc, _+_, _*_, _<_, _≤_}
+use Prim.Native.Nat.{ℕ, zero, suc, _+_, _*_, _≤_}
 use native.Mathlib.Omega.{arith}
 use lib.ListN.{length, take, drop, replicate, length-drop, length-replicate, take-append-drop}
 use native.Mathlib.Nat.{zero-add}
 use lib.Seq.{paste, length-take-le, take-add, take-take, take-paste, length-paste}
 use lib.Bits.{bitXor, xor-zero-r}
-use Rattle.xor.specs.Xor.{zipXor, xorAt, xorParts, xorPayloads, take-zip, length-zip, le-zip, paste-xor}
-use Rattle.xor.specs.Laws.{zip-assoc, zip-zero, zip-comm}
+use Rattle.xor.specs.Xor.{zipXor, xorParts, xorPayloads, take-zip, length-zip, le-zip, paste-xor}
+use Rattle.xor.specs.Laws.{zip-assoc}
 use Rattle.parity.specs.Rows.{places}
 
 -- the p bytes of a row
@@ -46,7 +46,8 @@ pub pasted : (p at : ℕ) (d y z : List ℕ) → take p y ≡ take p z → paste
 pasted p at d y z e = ap (λ (l : List ℕ). take at d ++ l ++ drop (at + p) d) e
 
 module _ (p : ℕ) (media : List ℕ) (at : ℕ) (d : List ℕ) (room : at + p ≤ length d) where
-  parts-sum : (rows z : List ℕ) → Ends p media rows → p ≤ length z
+  -- rows xored into what was pasted
+  pub parts-sum : (rows z : List ℕ) → Ends p media rows → p ≤ length z
       → xorParts media (places p rows) at p (paste d at z p) ≡ paste d at (zipXor z (xorPayloads p (map (rowAt p media) rows))) p
   parts-sum [] z e h = sym (pasted p at d (zipXor z (replicate p 0)) z (take-zeros p z h))
   parts-sum (i ∷ rows) z e h =
@@ -58,12 +59,9 @@ module _ (p : ℕ) (media : List ℕ) (at : ℕ) (d : List ℕ) (room : at + p �
       ∙ parts-sum rows (zipXor z row) (e .1) (le-zip p z row h long)
       ∙ ap (λ (l : List ℕ). paste d at l p) (zip-assoc z row x ∙ ap (zipXor z) front)
 
-  paste-self : d ≡ paste d at (drop at d) p
+  -- a list is itself with its own part pasted in
+  pub paste-self : d ≡ paste d at (drop at d) p
   paste-self = sym (ap (λ (l : List ℕ). l ++ drop (at + p) d) (sym (take-add at p d)) ∙ take-append-drop (at + p) d)
-
-  -- rows xored into a buffer
-  pub rows-sum : (rows : List ℕ) → Ends p media rows → xorParts media (places p rows) at p d ≡ paste d at (zipXor (drop at d) (xorPayloads p (map (rowAt p media) rows))) p
-  rows-sum rows e = ap (xorParts media (places p rows) at p) paste-self ∙ parts-sum rows (drop at d) e (simp length-drop (omega arith))
 
 -- a payload copied into a buffer, xored with another there, and read from there again
 pub through-buffer : (p : ℕ) (d v x : List ℕ) → p ≤ length d → p ≤ length v → p ≤ length x

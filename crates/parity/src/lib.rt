@@ -1,8 +1,9 @@
-// The exclusive-or over the members of a group that are present: of timestamps, and of payloads, four at a pass.
+// The exclusive-or over the members of a group that are present: of timestamps, and of payloads, ten at a pass, then four, then one.
 ghost use mathlib.Core.Path.{_≡_};
 ghost use mathlib.Core.List.{map};
 ghost use Prim.Native.Nat.{ℕ, _+_, _*_, _≤_, _<_};
-ghost use lib.ListN.{length, getD, take, drop};
+ghost use lib.ListN.{length, getD, take, drop, replicate};
+ghost use lib.Seq.{paste};
 ghost use lib.Bits.{bitXor};
 ghost use Rattle.sequence.specs.Lists.{keep};
 ghost use Rattle.xor.specs.Xor.{xorAll, xorParts};
@@ -47,19 +48,20 @@ pub fn xor_timestamps(timestamps: &[u32], rows: &[usize], n: usize, with: u32) -
     sum
 }
 
-// The payloads of the first rows, ten at a pass; how many rows that were.
+// The payloads of as many of the rows from `from` to n as make up tens, xored into sum from at, ten at a pass; the row after them.
 pub fn xor_tens(
     sum: &mut [u8],
     at: usize,
     media: &[u8],
     rows: &[usize],
+    from: usize,
     n: usize,
     p: usize,
 ) -> usize
-    requires { ⌜ (at + p ≤ length (now sum)) × Rows (now rows) n p (length (now media)) ⌝ }
-    ensures { λ r. ⌜ (r ≤ n) × (now (sum .exit) ≡ xorParts (now (media .entry)) (places p (take r (now (rows .entry)))) at p (now (sum .entry))) ⌝ }
+    requires { ⌜ (at + p ≤ length (now sum)) × (from ≤ n) × Rows (now rows) n p (length (now media)) ⌝ }
+    ensures { λ r. ⌜ (from ≤ r) × (r ≤ n) × (now (sum .exit) ≡ xorParts (now (media .entry)) (places p (drop from (take r (now (rows .entry))))) at p (now (sum .entry))) ⌝ }
 {
-    let mut i = 0;
+    let mut i = from;
     while 10 <= n - i {
         let a = rows[i] * p;
         let b = rows[i + 1] * p;
@@ -77,7 +79,7 @@ pub fn xor_tens(
     i
 }
 
-// The payloads of as many of the first n rows as make up fours, xored into sum from at; how many rows those are.
+// The same with as many as make up fours, four at a pass.
 pub fn xor_fours(
     sum: &mut [u8],
     at: usize,
@@ -123,12 +125,59 @@ pub fn xor_rest(
     }
 }
 
-// The payloads of the first n rows xored into sum from at.
-pub fn xor_rows(sum: &mut [u8], at: usize, media: &[u8], rows: &[usize], n: usize, p: usize)
-    requires { ⌜ (at + p ≤ length (now sum)) × Rows (now rows) n p (length (now media)) ⌝ }
-    ensures { λ _. ⌜ now (sum .exit) ≡ xorParts (now (media .entry)) (places p (take n (now (rows .entry)))) at p (now (sum .entry)) ⌝ }
+// The payloads of the rows from `from` to n xored into sum from at.
+pub fn xor_rows(
+    sum: &mut [u8],
+    at: usize,
+    media: &[u8],
+    rows: &[usize],
+    from: usize,
+    n: usize,
+    p: usize,
+)
+    requires { ⌜ (at + p ≤ length (now sum)) × (from ≤ n) × Rows (now rows) n p (length (now media)) ⌝ }
+    ensures { λ _. ⌜ now (sum .exit) ≡ xorParts (now (media .entry)) (places p (drop from (take n (now (rows .entry))))) at p (now (sum .entry)) ⌝ }
 {
-    let tens = xor_tens(sum, at, media, rows, n, p);
+    let tens = xor_tens(sum, at, media, rows, from, n, p);
     let fours = xor_fours(sum, at, media, rows, tens, n, p);
     xor_rest(sum, at, media, rows, fours, n, p);
+}
+
+// The payloads of the first ten of n rows laid over sum from at, or zeros where there are not ten; how many rows that were.
+pub fn sum_first(
+    sum: &mut [u8],
+    at: usize,
+    media: &[u8],
+    rows: &[usize],
+    n: usize,
+    p: usize,
+) -> usize
+    requires { ⌜ (at + p ≤ length (now sum)) × Rows (now rows) n p (length (now media)) ⌝ }
+    ensures { λ r. ⌜ (r ≤ n) × (now (sum .exit) ≡ xorParts (now (media .entry)) (places p (take r (now (rows .entry)))) at p (paste (now (sum .entry)) at (replicate p 0) p)) ⌝ }
+{
+    if n < 10 {
+        xor::zero_at(sum, at, p);
+        return 0;
+    }
+    let a = rows[0] * p;
+    let b = rows[1] * p;
+    let c = rows[2] * p;
+    let d = rows[3] * p;
+    let e = rows[4] * p;
+    let f = rows[5] * p;
+    let g = rows[6] * p;
+    let h = rows[7] * p;
+    let j = rows[8] * p;
+    let k = rows[9] * p;
+    xor::sum10_at(sum, at, media, a, b, c, d, e, f, g, h, j, k, p);
+    10
+}
+
+// The exclusive-or of the payloads of the first n rows, laid over sum from at: what stood there does not count.
+pub fn sum_rows(sum: &mut [u8], at: usize, media: &[u8], rows: &[usize], n: usize, p: usize)
+    requires { ⌜ (at + p ≤ length (now sum)) × Rows (now rows) n p (length (now media)) ⌝ }
+    ensures { λ _. ⌜ now (sum .exit) ≡ xorParts (now (media .entry)) (places p (take n (now (rows .entry)))) at p (paste (now (sum .entry)) at (replicate p 0) p) ⌝ }
+{
+    let first = sum_first(sum, at, media, rows, n, p);
+    xor_rows(sum, at, media, rows, first, n, p);
 }

@@ -10,17 +10,14 @@ use lib.Seq.{paste, getD-take, length-take-le}
 use Rattle.sequence.specs.Lists.{upTo, keep, map-append}
 use Rattle.sequence.specs.Wrap.{ahead}
 use Rattle.rtp.specs.Fec.{offsetOf, naOf}
-use Rattle.parity.specs.Rows.{line, marked, Rows}
-use Rattle.xor.specs.Xor.{zipXor, xorPayloads}
-use Rattle.parity.specs.Sum.{Ends, rowAt, pasted, through-buffer, length-payloads}
+use Rattle.parity.specs.Rows.{line, marked, places, Rows}
+use lib.Bits.{bitXor}
+use Rattle.xor.specs.Xor.{zipXor, xorAll, xorParts, xorPayloads}
+use Rattle.parity.specs.Sum.{Ends, rowAt, pasted, parts-sum, paste-self, through-buffer, length-payloads}
 use Rattle.window.specs.Bounds.{Profile}
-use Rattle.settle.specs.State.{payloadOver}
+use Rattle.settle.specs.State.{stampOver, payloadOver}
+use Rattle.settle.specs.Held.{Below, Held}
 use Rattle.window.specs.Plain.{Inside, Shape, shape-of, groupOf, group-plain, inside-more}
-
--- every element of a list is below a bound
-abbrev pub Below : ℕ → List ℕ → Type 0
-Below b [] = Unit
-Below b (i ∷ l) = (i < b) × Below b l
 
 below-append : (b : ℕ) (l m : List ℕ) → Below b l → Below b m → Below b (l ++ m)
 below-append b [] m p q = q
@@ -64,24 +61,44 @@ module _ (base l d stream start n at offset na : ℕ) (b : base < 2 ^ 16) (prof 
   pub line-group : line at offset na ≡ groupOf base l d stream start
   line-group = rw (eat, eoff, ena) (sym (group-plain base l d stream start b prof (inside-more 400 small inside)))
 
-  module _ (marks rows : List ℕ) (m : ℕ) (few : m ≤ na) (long : length rows ≡ 20) (are : take m rows ≡ keep (marked marks) (line at offset na)) where
-    pub held : take m rows ≡ keep (marked marks) (groupOf base l d stream start)
-    held = are ∙ ap (keep (marked marks)) line-group
+  pub is-held : (marks rows : List ℕ) (m : ℕ) → m ≤ na → length rows ≡ 20 → take m rows ≡ keep (marked marks) (line at offset na) → Held (groupOf base l d stream start) marks n rows m
+  is-held marks rows m few long are =
+      let s = shape-of l d stream prof in
+      record {
+        few = omega (arith, s .na-high);
+        long = long;
+        are = are ∙ ap (keep (marked marks)) line-group;
+        below = rw are (below-keep n (marked marks) (line at offset na) (below-map n (λ j. at + j * offset) na places-below));
+      }
 
-    m-long : m ≤ length rows
-    m-long = let s = shape-of l d stream prof in omega (arith, s .na-high)
+-- ---- the members held of a group
+module _ (group marks : List ℕ) (n : ℕ) (rows : List ℕ) (m : ℕ) (h : Held group marks n rows m) where
+  m-long : m ≤ length rows
+  m-long = omega (arith, h .few, h .long)
 
-    pub held-below : Below n (take m rows)
-    held-below = rw are (below-keep n (marked marks) (line at offset na) (below-map n (λ j. at + j * offset) na places-below))
+  row-below : (i : ℕ) → i < m → getD rows i 0 < n
+  row-below i k = rw (getD-take m rows i 0 k) at (below-getD n (take m rows) (h .below) i (rw (length-take-le m rows m-long) k))
 
-    row-below : (i : ℕ) → i < m → getD rows i 0 < n
-    row-below i h = rw (getD-take m rows i 0 h) at (below-getD n (take m rows) held-below i (rw (length-take-le m rows m-long) h))
+  pub rows-asked : (p : ℕ) (media : List ℕ) → n * p ≤ length media → Rows rows m p (length media)
+  rows-asked p media e = record { long = m-long; ends = λ i k. row-ends (getD rows i 0) n p (length media) (row-below i k) e }
 
-    pub rows-asked : (p : ℕ) (media : List ℕ) → n * p ≤ length media → Rows rows m p (length media)
-    rows-asked p media h = record { long = m-long; ends = λ i k. row-ends (getD rows i 0) n p (length media) (row-below i k) h }
+  pub stamps-asked : (timestamps : List ℕ) → n ≤ length timestamps → (m ≤ length rows) × ((i : ℕ) → i < m → getD rows i 0 < length timestamps)
+  stamps-asked timestamps e = (m-long, λ i k. let q = row-below i k in omega arith)
 
-    pub stamps-asked : (timestamps : List ℕ) → n ≤ length timestamps → (m ≤ length rows) × ((i : ℕ) → i < m → getD rows i 0 < length timestamps)
-    stamps-asked timestamps h = (m-long, λ i k. let q = row-below i k in omega arith)
+  -- their timestamps
+  pub stamps-held : (timestamps : List ℕ) (stamps : ℕ) → bitXor stamps (xorAll (map (λ i. getD timestamps i 0) (take m rows))) ≡ stampOver timestamps marks group stamps
+  stamps-held timestamps stamps = ap (λ (l : List ℕ). bitXor stamps (xorAll (map (λ i. getD timestamps i 0) l))) (h .are)
+
+  module _ (p : ℕ) (media : List ℕ) (e : n * p ≤ length media) (to : ℕ) (d : List ℕ) (room : to + p ≤ length d) where
+    -- their payloads, xored into what was pasted
+    pub rows-laid : (z : List ℕ) → p ≤ length z → xorParts media (places p (take m rows)) to p (paste d to z p) ≡ paste d to (payloadOver p media marks group z) p
+    rows-laid z k =
+        parts-sum p media to d room (take m rows) z (below-ends n p media e (take m rows) (h .below)) k
+        ∙ ap (λ (l : List ℕ). paste d to (zipXor z (xorPayloads p (map (rowAt p media) l))) p) (h .are)
+
+    -- and into what stood there
+    pub rows-over : xorParts media (places p (take m rows)) to p d ≡ paste d to (payloadOver p media marks group (drop to d)) p
+    rows-over = ap (xorParts media (places p (take m rows)) to p) (paste-self p media to d room) ∙ rows-laid (drop to d) (simp length-drop (omega arith))
 
 -- ---- a group inside a window, by its definition
 module _ (base l d stream start n : ℕ) (b : base < 2 ^ 16) (prof : Profile l d) (small : n ≤ 400) (inside : Inside base l d stream start n) where

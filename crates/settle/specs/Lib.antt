@@ -1,4 +1,5 @@
 pub mod State
+pub mod Held
 pub mod Scan
 pub mod Counts
 pub mod Settle

@@ -1,4 +1,5 @@
 // Settling: parity in hand rebuilds until none of it has exactly one packet missing.
+use parity::Members;
 use window::Window;
 ghost use mathlib.Core.Path.{_≡_};
 ghost use mathlib.Core.Bool.{_&&_, cond};
@@ -6,7 +7,7 @@ ghost use mathlib.Core.List.{List, []};
 ghost use mathlib.Core.Option.{none};
 ghost use Prim.Native.Nat.{ℕ, _+_, _*_, _-_, _≤_, _<_};
 ghost use lib.Dec.{eqb};
-ghost use lib.ListN.{length, getD, drop, take, set};
+ghost use lib.ListN.{length, getD, drop, take, set, replicate};
 ghost use lib.Seq.{paste};
 ghost use Rattle.sequence.specs.Lists.{keep, count, headOr};
 ghost use Rattle.sequence.specs.Wrap.{ahead};
@@ -15,9 +16,21 @@ ghost use Rattle.window.specs.Bounds.{SetUp};
 ghost use Rattle.window.specs.Plain.{Inside, groupOf};
 ghost use Rattle.window.specs.InOrder.{tables};
 ghost use Rattle.settle.specs.State.{stampOver, payloadOver, recount};
+ghost use Rattle.settle.specs.Held.{Held};
 ghost use Rattle.settle.specs.Scan.{unmarked, found, pick, Records, Kept, scene, stored};
 ghost use Rattle.settle.specs.Counts.{lackAt, standsAt, Counted, Lowered};
 ghost use Rattle.settle.specs.Settle.{next, releaseSpent, releaseAll, round};
+
+// The members held of a group, as rows of the store.
+fn members_held(w: Window, stream: u8, start: u16, marks: &[u8]) -> Members
+    requires { ⌜ SetUp w × Inside (w .base) (w .l) (w .d) stream start (w .n) × (w .n ≤ length (now marks)) ⌝ }
+    ensures { λ r. ⌜ Held (groupOf (w .base) (w .l) (w .d) stream start) (now (marks .entry)) (w .n) (r .rows) (r .n) ⌝ }
+{
+    let at = sequence::position(w.base, start) as usize;
+    let offset = rtp::offset_of(stream, w.l);
+    let na = rtp::na_of(stream, w.l, w.d);
+    parity::members_present(marks, at, offset, na)
+}
 
 // The payloads held of a group xored into a buffer from a place on; the timestamps held xored with a number.
 pub fn add_up(
@@ -35,14 +48,33 @@ pub fn add_up(
     ensures { λ r. ⌜ (r ≡ stampOver (now (timestamps .entry)) (now (marks .entry)) (groupOf (w .base) (w .l) (w .d) stream start) stamps)
         × (now (sum .exit) ≡ paste (now (sum .entry)) to (payloadOver (w .p) (now (media .entry)) (now (marks .entry)) (groupOf (w .base) (w .l) (w .d) stream start) (drop to (now (sum .entry)))) (w .p)) ⌝ }
 {
-    let at = sequence::position(w.base, start) as usize;
-    let offset = rtp::offset_of(stream, w.l);
-    let na = rtp::na_of(stream, w.l, w.d);
-    let m = parity::members_present(marks, at, offset, na);
+    let m = members_held(w, stream, start, marks);
     let rows = m.rows;
     let n = m.n;
-    parity::xor_rows(sum, to, media, &rows, n, w.p);
+    parity::xor_rows(sum, to, media, &rows, 0, n, w.p);
     parity::xor_timestamps(timestamps, &rows, n, stamps)
+}
+
+// The payloads held of a group laid over a buffer from a place on, whatever stood there; the timestamps held.
+pub fn sum_up(
+    sum: &mut [u8],
+    to: usize,
+    w: Window,
+    stream: u8,
+    start: u16,
+    media: &[u8],
+    timestamps: &[u32],
+    marks: &[u8],
+) -> u32
+    requires { ⌜ SetUp w × Inside (w .base) (w .l) (w .d) stream start (w .n) × (to + w .p ≤ length (now sum)) × (w .n * w .p ≤ length (now media)) × (w .n ≤ length (now timestamps)) × (w .n ≤ length (now marks)) ⌝ }
+    ensures { λ r. ⌜ (r ≡ stampOver (now (timestamps .entry)) (now (marks .entry)) (groupOf (w .base) (w .l) (w .d) stream start) 0)
+        × (now (sum .exit) ≡ paste (now (sum .entry)) to (payloadOver (w .p) (now (media .entry)) (now (marks .entry)) (groupOf (w .base) (w .l) (w .d) stream start) (replicate (w .p) 0)) (w .p)) ⌝ }
+{
+    let m = members_held(w, stream, start, marks);
+    let rows = m.rows;
+    let n = m.n;
+    parity::sum_rows(sum, to, media, &rows, n, w.p);
+    parity::xor_timestamps(timestamps, &rows, n, 0)
 }
 
 // The one missing packet of a group, at position i, rebuilt from a recovery: p bytes of a slice from a place on.

@@ -5,7 +5,7 @@ use native.Mathlib.Omega.{arith}
 use Rattle.xor.specs.Xor.{xorParts}
 use Rattle.parity.specs.Rows.{places}
 use lib.ListN.{length, take, drop}
-use Rattle.parity.proofs.Turns.{none-yet, four-rows}
+use Rattle.parity.proofs.Turns.{none-yet, rows-more}
 use Rattle.parity.proofs.xor_fours.Statement.{statement}
 use Rattle.parity.proofs.xor_fours.Tie as tie
 
@@ -76,12 +76,15 @@ loop-less : tie.Need-loop-less Inv-loop μ-loop
 loop-less c = omega arith
 
 loop-again : tie.Need-loop-again Inv-loop μ-loop
-loop-again c = (
-  omega arith,
-  omega arith,
-  rw (c .before .before .xor4-at .ensures, c .before .before .before .before .before .before .before .before .before .loop .inv .2) (four-rows (c .before .before .before .before .before .before .before .before .before .before .before .before .before .args .media .now) (c .before .before .before .before .before .before .before .before .before .before .before .before .before .args .rows .now) (c .before .before .before .before .before .before .before .before .before .before .before .before .before .args .at) (c .before .before .before .before .before .before .before .before .before .before .before .before .before .args .p) (c .before .before .before .before .before .before .before .before .before .before .before .before .before .args .sum .now) (c .before .before .before .before .before .before .before .before .before .before .before .before .before .args .from) (c .before .before .before .before .before .before .before .before .before .loop .i) (omega arith) (omega (arith, c .before .before .before .before .before .before .before .before .before .before .before .before .before .pre .2 .long))),
-  omega (arith, c .before .before .xor4-at .kept),
-)
+loop-again c =
+    let l = c .before .before .before .before .before .before .before .before .before .loop in
+    let s = c .before .before .before .before .before .before .before .before .before .before .before .before .before in
+    let a = s .args in (
+      omega arith,
+      omega arith,
+      rw (c .before .before .xor4-at .ensures, l .inv .2) (rows-more (a .media .now) (a .rows .now) (a .at) (a .p) (a .sum .now) (a .from) (l .i) 4 (omega arith) (omega (arith, s .pre .2 .long))),
+      omega (arith, c .before .before .xor4-at .kept),
+    )
 
 same-length : tie.Need-same-length Inv-loop μ-loop
 same-length c = omega arith

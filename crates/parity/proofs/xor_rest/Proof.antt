@@ -2,10 +2,10 @@
 use mathlib.Core.Path.{_≡_, refl, _∙_}
 use Prim.Native.Nat.{_≤_, _-_}
 use native.Mathlib.Omega.{arith}
-use lib.ListN.{length, take, drop, length-take, drop-of-length-le}
+use lib.ListN.{length, take, drop}
 use Rattle.xor.specs.Xor.{xorParts}
 use Rattle.parity.specs.Rows.{places}
-use Rattle.parity.proofs.Turns.{rest-row}
+use Rattle.parity.proofs.Turns.{none-yet, rows-more}
 use Rattle.parity.proofs.xor_rest.Statement.{statement}
 use Rattle.parity.proofs.xor_rest.Tie as tie
 
@@ -16,7 +16,9 @@ abbrev μ-loop : tie.MeasureT-loop
 μ-loop sum₀ at media rows from n p i₀ sum i = n - i
 
 loop-holds : tie.Need-loop-holds Inv-loop μ-loop
-loop-holds c = (omega arith, rw (drop-of-length-le (take (c .before .before .before .args .from) (c .before .before .before .args .rows .now)) {i = c .before .before .before .args .from} (simp length-take (omega arith))), refl, omega arith)
+loop-holds c =
+    let a = c .before .before .before .args in
+    (omega arith, none-yet (a .media .now) (a .rows .now) (a .at) (a .p) (a .sum .now) (a .from), refl, omega arith)
 
 mul-row : tie.Need-mul-row Inv-loop μ-loop
 mul-row c = omega arith
@@ -37,12 +39,15 @@ loop-less : tie.Need-loop-less Inv-loop μ-loop
 loop-less c = omega arith
 
 loop-again : tie.Need-loop-again Inv-loop μ-loop
-loop-again c = (
-  omega arith,
-  rw (c .before .before .xor-at .ensures, c .before .before .before .before .before .before .loop .inv .1) (rest-row (c .before .before .before .before .before .before .before .before .before .before .args .media .now) (c .before .before .before .before .before .before .before .before .before .before .args .rows .now) (c .before .before .before .before .before .before .before .before .before .before .args .at) (c .before .before .before .before .before .before .before .before .before .before .args .p) (c .before .before .before .before .before .before .before .before .before .before .args .sum .now) (c .before .before .before .before .before .before .before .before .before .before .args .from) (c .before .before .before .before .before .before .loop .i) (omega arith) (omega (arith, c .before .before .before .before .before .before .before .before .before .before .pre .2 .long))),
-  omega (arith, c .before .before .xor-at .kept),
-  omega arith,
-)
+loop-again c =
+    let l = c .before .before .before .before .before .before .loop in
+    let s = c .before .before .before .before .before .before .before .before .before .before in
+    let a = s .args in (
+      omega arith,
+      rw (c .before .before .xor-at .ensures, l .inv .1) (rows-more (a .media .now) (a .rows .now) (a .at) (a .p) (a .sum .now) (a .from) (l .i) 1 (omega arith) (omega (arith, s .pre .2 .long))),
+      omega (arith, c .before .before .xor-at .kept),
+      omega arith,
+    )
 
 same-length : tie.Need-same-length Inv-loop μ-loop
 same-length c = omega arith

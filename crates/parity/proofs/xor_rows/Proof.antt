@@ -1,6 +1,7 @@
 -- `parity::xor_rows` meets its contract. Assumes nothing.
 use mathlib.Core.Path.{ap, _∙_}
-use Prim.Native.Nat.{ℕ, _-_}
+use Prim.Native.Nat.{ℕ}
+use native.Mathlib.Omega.{arith}
 use borrow.Author.Needs.{needs}
 use mathlib.Core.List.{List}
 use lib.ListN.{take, drop}
@@ -24,10 +25,14 @@ same-length c = search needs
 
 returns : tie.Need-returns
 returns c =
+    let s = c .before .before .before .before .before .before .before .before .before .before .before .before .before .before .before in
+    let a = s .args in
+    let tens = c .before .before .before .before .before .before .before .before .before .before .xor-tens in
+    let fours = c .before .before .before .before .before .before .xor-fours in
+    let until : ℕ → ℕ → List ℕ → List ℕ = λ from to l. xorParts (a .media .now) (places (a .p) (drop from (take to (a .rows .now)))) (a .at) (a .p) l in
     c .before .before .xor-rest .ensures
-    ∙ ap (λ (l : List ℕ). xorParts (c .before .before .before .before .before .before .before .before .before .before .before .before .before .before .before .args .media .now) (places (c .before .before .before .before .before .before .before .before .before .before .before .before .before .before .before .args .p) (drop (c .before .before .before .before .before .before .xor-fours .result) (take (c .before .before .before .before .before .before .before .before .before .before .before .before .before .before .before .args .n) (c .before .before .before .before .before .before .before .before .before .before .before .before .before .before .before .args .rows .now)))) (c .before .before .before .before .before .before .before .before .before .before .before .before .before .before .before .args .at) (c .before .before .before .before .before .before .before .before .before .before .before .before .before .before .before .args .p) l)
-    (c .before .before .before .before .before .before .xor-fours .ensures .2 ∙ ap (λ (l : List ℕ). xorParts (c .before .before .before .before .before .before .before .before .before .before .before .before .before .before .before .args .media .now) (places (c .before .before .before .before .before .before .before .before .before .before .before .before .before .before .before .args .p) (drop (c .before .before .before .before .before .before .before .before .before .before .xor-tens .result) (take (c .before .before .before .before .before .before .xor-fours .result) (c .before .before .before .before .before .before .before .before .before .before .before .before .before .before .before .args .rows .now)))) (c .before .before .before .before .before .before .before .before .before .before .before .before .before .before .before .args .at) (c .before .before .before .before .before .before .before .before .before .before .before .before .before .before .before .args .p) l) (c .before .before .before .before .before .before .before .before .before .before .xor-tens .ensures .1) ∙ rows-then (c .before .before .before .before .before .before .before .before .before .before .before .before .before .before .before .args .media .now) (c .before .before .before .before .before .before .before .before .before .before .before .before .before .before .before .args .rows .now) (c .before .before .before .before .before .before .before .before .before .before .before .before .before .before .before .args .at) (c .before .before .before .before .before .before .before .before .before .before .before .before .before .before .before .args .p) (c .before .before .before .before .before .before .before .before .before .before .before .before .before .before .before .args .sum .now) (c .before .before .before .before .before .before .before .before .before .before .xor-tens .result) (c .before .before .before .before .before .before .xor-fours .result) (c .before .before .before .before .before .before .xor-fours .ensures .0))
-    ∙ rows-then (c .before .before .before .before .before .before .before .before .before .before .before .before .before .before .before .args .media .now) (c .before .before .before .before .before .before .before .before .before .before .before .before .before .before .before .args .rows .now) (c .before .before .before .before .before .before .before .before .before .before .before .before .before .before .before .args .at) (c .before .before .before .before .before .before .before .before .before .before .before .before .before .before .before .args .p) (c .before .before .before .before .before .before .before .before .before .before .before .before .before .before .before .args .sum .now) (c .before .before .before .before .before .before .xor-fours .result) (c .before .before .before .before .before .before .before .before .before .before .before .before .before .before .before .args .n) (c .before .before .before .before .before .before .xor-fours .ensures .1)
+    ∙ ap (until (fours .result) (a .n)) (fours .ensures .2 ∙ ap (until (tens .result) (fours .result)) (tens .ensures .2) ∙ rows-then (a .media .now) (a .rows .now) (a .at) (a .p) (a .sum .now) (a .from) (tens .result) (fours .result) (tens .ensures .0) (fours .ensures .0) (omega (arith, s .pre .2 .long, fours .ensures .1)))
+    ∙ rows-then (a .media .now) (a .rows .now) (a .at) (a .p) (a .sum .now) (a .from) (fours .result) (a .n) (omega (arith, tens .ensures .0, fours .ensures .0)) (fours .ensures .1) (s .pre .2 .long)
 
 pub xor-rows-spec : {M : Type 1} → statement M
 xor-rows-spec =
