@@ -6,11 +6,11 @@ use Prim.Native.Nat.{ℕ, zero, suc, _+_, _≤_}
 use native.Mathlib.Nat.{zero-add}
 use native.Mathlib.Omega.{arith}
 use lib.Dec.{ltb}
-use lib.ListN.{length, take, drop, replicate, length-append, length-replicate}
+use lib.ListN.{length, take, drop, replicate, length-append}
 use lib.Seq.{paste, sets, sets-eq, length-paste, length-take-le, take-length, drop-at}
 use borrow.Author.Tests.{lt-ltb, le-ltb}
 use Rattle.sequence.specs.Lists.{any, keep, count, or-split, any-count}
-use Rattle.xor.specs.Xor.{zipXor, xorAt, paste-xor}
+use Rattle.xor.specs.Xor.{zipXor}
 use Rattle.xor.specs.Laws.{zip-zero}
 use Rattle.calls.specs.Call.{over}
 
@@ -27,12 +27,11 @@ laid h y out n p eh ho hy =
     ∙ sym (append-assoc h (take p y) (drop (n + p) out))
     ∙ ap (λ (k : ℕ). h ++ take p y ++ drop k out) (sym size)
 
--- the same where y is xored into p zeros that were pasted there first
-pub laid-sum : (h x out : List ℕ) (n p : ℕ) → length h ≡ n → n + p ≤ length out → length x ≡ p → sets (xorAt (paste out n (replicate p 0) p) n x p) 0 h ≡ over (h ++ x) out
+-- the same where y is x xored into p zeros
+pub laid-sum : (h x out : List ℕ) (n p : ℕ) → length h ≡ n → n + p ≤ length out → length x ≡ p → sets (paste out n (zipXor (replicate p 0) x) p) 0 h ≡ over (h ++ x) out
 laid-sum h x out n p eh ho ex =
-    let z = length-replicate {A = ℕ} p 0 in
     let zeros : zipXor (replicate p 0) x ≡ x = ap (λ (k : ℕ). zipXor (replicate k 0) x) (sym ex) ∙ zip-zero x in
-    ap (λ (l : List ℕ). sets l 0 h) (paste-xor out n (replicate p 0) x p ho (omega arith) ∙ ap (λ (l : List ℕ). paste out n l p) zeros)
+    ap (λ (l : List ℕ). sets (paste out n l p) 0 h) zeros
     ∙ laid h x out n p eh ho (omega arith)
     ∙ ap (λ (l : List ℕ). over (h ++ l) out) (ap (λ (k : ℕ). take k x) (sym ex) ∙ take-length x)
 

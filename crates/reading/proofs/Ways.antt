@@ -12,7 +12,7 @@ use borrow.Author.Tests.{lt-ltb, le-ltb, eq-eqb, ne-eqb, not-false}
 use Rattle.answer.specs.declared.Answer.the-variants.{Done, Refused}
 use Rattle.answer.specs.First.{first, first-hit, first-past, first-end, first-none}
 use Rattle.sequence.specs.Lists.{any, keep}
-use Rattle.xor.specs.Xor.{zipXor, xorAt, xorAll, xorPayloads}
+use Rattle.xor.specs.Xor.{zipXor, xorAll, xorPayloads}
 use Rattle.rtp.specs.Rtp.{rtpHeader}
 use Rattle.rtp.specs.Fec.{fecHeader, fecBytes, offsetOf, naOf, byNa}
 use Rattle.parity.specs.Rows.{marked}
@@ -110,13 +110,13 @@ module _ (stream : ℕ) (w : Window) (start : ℕ) (o : Outer) (s : Store) (out 
       whole : keep (marked (s .marks)) (group w stream start) ≡ group w stream start
       whole = keep-all (λ i. eqb (getD (s .marks) i 0) 0) (group w stream start) (none .1)
 
-      -- zeros behind the headers, the payloads xored into them, then the headers written
-      pub write-done : Ends (w .p) (s .media) (group w stream start) → (stamps : ℕ) (one two three : List ℕ) → one ≡ paste out 28 (replicate (w .p) 0) (w .p)
+      -- the payloads xored into zeros and laid behind the headers, then the headers written
+      pub write-done : Ends (w .p) (s .media) (group w stream start) → (stamps : ℕ) (one two : List ℕ)
           → stamps ≡ stampOver (s .timestamps) (s .marks) (group w stream start) 0
-          → two ≡ paste one 28 (payloadOver (w .p) (s .media) (s .marks) (group w stream start) (drop 28 one)) (w .p)
-          → three ≡ sets two 0 (rtpHeader 96 (o .sequence) (o .timestamp) (o .ssrc) ++ fecHeader stream (w .l) (w .d) (w .p) start stamps)
-          → yes (28 + w .p) w three ≡ wroteParity stream w start o s out
-      write-done ends stamps one two three e1 es e2 e3 =
+          → one ≡ paste out 28 (payloadOver (w .p) (s .media) (s .marks) (group w stream start) (replicate (w .p) 0)) (w .p)
+          → two ≡ sets one 0 (rtpHeader 96 (o .sequence) (o .timestamp) (o .ssrc) ++ fecHeader stream (w .l) (w .d) (w .p) start stamps)
+          → yes (28 + w .p) w two ≡ wroteParity stream w start o s out
+      write-done ends stamps one two es e1 e2 =
           let g = standing-known w s (length out) (28 + w .p) r e z in
           let x : List ℕ → List ℕ = λ l. xorPayloads (w .p) (map (rowAt (w .p) (s .media)) l) in
           let head : ℕ → List ℕ = λ t. rtpHeader 96 (o .sequence) (o .timestamp) (o .ssrc) ++ fecHeader stream (w .l) (w .d) (w .p) start t in
@@ -124,11 +124,8 @@ module _ (stream : ℕ) (w : Window) (start : ℕ) (o : Outer) (s : Store) (out 
           es ∙ xor-zero-l (xorAll (map (λ i. getD (s .timestamps) i 0) (keep (marked (s .marks)) (group w stream start)))) ∙ ap (λ (l : List ℕ). xorAll (map (λ i. getD (s .timestamps) i 0) l)) whole in
           let ex : length (x (group w stream start)) ≡ w .p = length-payloads (w .p) (s .media) (group w stream start) ends in
           ap (λ (t : List ℕ). yes (28 + w .p) w t)
-          (e3
-          ∙ ap (λ (t : List ℕ). sets t 0 (head stamps))
           (e2
-          ∙ ap (λ (l : List ℕ). paste one 28 (zipXor (drop 28 one) (x l)) (w .p)) whole
-          ∙ ap (λ (b : List ℕ). xorAt b 28 (x (group w stream start)) (w .p)) e1)
+          ∙ ap (λ (t : List ℕ). sets t 0 (head stamps)) (e1 ∙ ap (λ (l : List ℕ). paste out 28 (zipXor (replicate (w .p) 0) (x l)) (w .p)) whole)
           ∙ laid-sum (head stamps) (x (group w stream start)) out 28 (w .p) refl (g .fits) ex)
           ∙ write-yes (head stamps ++ x (group w stream start)) (ap (λ (t : ℕ). head t ++ x (group w stream start)) et)
 

@@ -198,21 +198,10 @@ pub fn write_parity(
     if own != 0 {
         return Answer::Refused(own);
     }
-    let p = w.p;
-    xor::zero_at(out, rtp::PARITY_HEADERS, p);
-    let stamps = settle::add_up(
-        out,
-        rtp::PARITY_HEADERS,
-        w,
-        stream,
-        start,
-        0,
-        media,
-        timestamps,
-        marks,
-    );
+    let to = rtp::PARITY_HEADERS;
+    let stamps = settle::sum_up(out, to, w, stream, start, media, timestamps, marks);
     write_headers(out, w, stream, start, stamps, sequence, timestamp, ssrc);
-    Answer::Done(rtp::PARITY_HEADERS + p)
+    Answer::Done(to + w.p)
 }
 
 // The parity packet of a column.

@@ -74,28 +74,25 @@ returns-2 c =
     let h = o .before .group-fault in
     group-stops (a .stream) (a .w) (a .start) (O s) (S s) (a .out .now) (f .result) (f .ensures) (e .if1 .left) (h .result) (h .ensures) (o .if2 .taken)
 
-zero-at-requires : tie.Need-zero-at-requires
-zero-at-requires c κs = omega (arith, stood (c .before .before .before) .fits)
-
-add-up-requires : tie.Need-add-up-requires
-add-up-requires c κs =
-    let g = stood (c .before .before .before .before .before .before .before) in
-    (g .set-up, lies (c .before .before .before .before .before), omega (arith, c .before .before .before .zero-at .kept, g .fits), g .sized .media-long, g .sized .timestamps-long, g .sized .marks-long)
+sum-up-requires : tie.Need-sum-up-requires
+sum-up-requires c κs =
+    let g = stood (c .before .before .before) in
+    (g .set-up, lies (c .before), omega (arith, g .fits), g .sized .media-long, g .sized .timestamps-long, g .sized .marks-long)
 
 write-headers-requires : tie.Need-write-headers-requires
 write-headers-requires c κs =
-    let g = stood (c .before .before .before .before .before .before .before .before .before .before .before) in
-    (g .set-up, c .before .before .before .before .before .before .before .before .before .before .before .before .before .before .before .before .before .before .before .before .before .before .pre, omega (arith, c .before .before .before .before .before .before .before .zero-at .kept, c .before .before .before .add-up .kept, g .fits))
+    let g = stood (c .before .before .before .before .before .before .before) in
+    (g .set-up, c .before .before .before .before .before .before .before .before .before .before .before .before .before .before .before .before .before .before .pre, omega (arith, c .before .before .before .sum-up .kept, g .fits))
 
-add-t29 : tie.Need-add-t29
-add-t29 c = omega (arith, stood (c .before .before .before .before .before .before .before .before .before .before .before .before .before .before) .set-up .p-high)
+add-t27 : tie.Need-add-t27
+add-t27 c = omega (arith, stood (c .before .before .before .before .before .before .before .before .before .before .before) .set-up .p-high)
 
 same-length : tie.Need-same-length
 same-length c = search needs
 
 returns-3 : tie.Need-returns-3
 returns-3 c =
-    let o = c .before .before .before .before .before .before .before .before .before .before .before .before in
+    let o = c .before .before .before .before .before .before .before .before .before in
     let e = o .before .before in
     let s = start e in
     let a = s .args in
@@ -104,7 +101,7 @@ returns-3 c =
     let g = stood e in
     let below = group-below (a .w .base) (a .w .l) (a .w .d) (a .stream) (a .start) (a .w .n) (omega (arith, s .good)) (g .set-up .profile) (g .set-up .n-high) (lies o) in
     let ends = below-ends (a .w .n) (a .w .p) (a .media .now) (g .sized .media-long) (groupOf (a .w .base) (a .w .l) (a .w .d) (a .stream) (a .start)) below in
-    write-done (a .stream) (a .w) (a .start) (O s) (S s) (a .out .now) (f .result) (f .ensures) (e .if1 .left) (h .result) (h .ensures) (o .if2 .left) ends (c .before .before .before .before .before .before .add-up .result) _ _ _ (c .before .before .before .before .before .before .before .before .before .before .zero-at .ensures) (c .before .before .before .before .before .before .add-up .ensures .0) (c .before .before .before .before .before .before .add-up .ensures .1) (c .before .before .write-headers .ensures)
+    write-done (a .stream) (a .w) (a .start) (O s) (S s) (a .out .now) (f .result) (f .ensures) (e .if1 .left) (h .result) (h .ensures) (o .if2 .left) ends (c .before .before .before .before .before .before .before .sum-up .result) _ _ (c .before .before .before .before .before .before .before .sum-up .ensures .0) (c .before .before .before .before .before .before .before .sum-up .ensures .1) (c .before .before .before .write-headers .ensures)
 
 pub write-parity-spec : {M : Type 1} → statement M
 write-parity-spec =
@@ -114,9 +111,8 @@ write-parity-spec =
     returns
     group-fault-requires
     returns-2
-    zero-at-requires
-    add-up-requires
+    sum-up-requires
     write-headers-requires
-    add-t29
+    add-t27
     same-length
     returns-3)
