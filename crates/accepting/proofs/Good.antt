@@ -24,7 +24,7 @@ use Rattle.settle.specs.State.{State, Recovery, recount, stampOver, payloadOver
 use Rattle.settle.specs.Scan.{Kept, Records, unmarked, scene, stored}
 use Rattle.settle.specs.Settle.{settle}
 use Rattle.settle.proofs.Release.{kept-rebuilt}
-use Rattle.settle.proofs.Members.{kept-below-group}
+use Rattle.rebuilding.proofs.Members.{kept-below-group}
 use Rattle.settle.proofs.Rounds.{head-below}
 use Rattle.holding.proofs.Held.{kept-held, rest-all}
 use Rattle.holding.proofs.Free.{free-below}

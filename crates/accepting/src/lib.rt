@@ -119,8 +119,8 @@ fn accept_last(
 {
     let from = rtp::snbase(datagram);
     let stamps = rtp::timestamp_recovery(datagram);
-    let i = settle::first_missing(w, marks, stream, from);
-    settle::rebuild_at(
+    let i = rebuilding::first_missing(w, marks, stream, from);
+    rebuilding::rebuild_at(
         w,
         stream,
         from,

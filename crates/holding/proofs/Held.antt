@@ -16,7 +16,7 @@ use Rattle.window.specs.Plain.{Inside}
 use Rattle.settle.specs.State.{State, Recovery, recount, putRecord, rebuild, hold}
 use Rattle.settle.specs.Scan.{Kept, scene}
 use Rattle.settle.proofs.Release.{set-up-same}
-use Rattle.settle.proofs.Members.{row-ends}
+use Rattle.rebuilding.proofs.Members.{row-ends}
 use Rattle.calls.specs.Accept.{firstFree, takeParity}
 
 -- ---- the ways through takeParity

@@ -25,7 +25,7 @@ use Rattle.calls.specs.Datagram.{Outer}
 use Rattle.calls.specs.Call.{Written, standingTests, over, readTests, readOut, writeTests, wroteParity}
 use Rattle.calls.specs.Standing.{standing-known, standing-stops, standing-goes}
 use Rattle.reading.specs.Tests.{groupTests}
-use Rattle.settle.proofs.Members.{row-ends}
+use Rattle.rebuilding.proofs.Members.{row-ends}
 use Rattle.reading.proofs.Lay.{laid, laid-sum, keep-all}
 
 -- a call that is refused leaves the output, and one that is done has written to it

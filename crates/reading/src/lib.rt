@@ -199,7 +199,7 @@ pub fn write_parity(
         return Answer::Refused(own);
     }
     let to = rtp::PARITY_HEADERS;
-    let stamps = settle::sum_up(out, to, w, stream, start, media, timestamps, marks);
+    let stamps = rebuilding::sum_up(out, to, w, stream, start, media, timestamps, marks);
     write_headers(out, w, stream, start, stamps, sequence, timestamp, ssrc);
     Answer::Done(to + w.p)
 }

@@ -24,7 +24,7 @@ use Rattle.settle.specs.State.{State, recount, release}
 use Rattle.settle.specs.Scan.{unmarked, scene}
 use Rattle.settle.specs.Counts.{lackAt, standsAt, Counted, Lowered}
 use Rattle.settle.specs.Settle.{lack, ready, releaseBelow, releaseAll}
-use Rattle.settle.proofs.Members.{line-group}
+use Rattle.rebuilding.proofs.Members.{line-group}
 use Rattle.settle.proofs.Release.{one-elsewhere}
 
 -- ---- a position on a line of places

@@ -1,4 +1,3 @@
-pub mod Members
 pub mod Scan
 pub mod Release
 pub mod Counts

@@ -16,7 +16,7 @@ use Rattle.window.specs.Plain.{Inside}
 use Rattle.settle.specs.State.{State, recount, release}
 use Rattle.settle.specs.Scan.{Records, Kept, scene, stored}
 use Rattle.settle.specs.Settle.{lack, releaseSpent, releaseBelow}
-use Rattle.settle.proofs.Members.{row-ends}
+use Rattle.rebuilding.proofs.Members.{row-ends}
 
 module _ (x : State) (r : ℕ) where
   pub free : (getD (x .store .uses) r 0 ≡ 1 → ⊥) → x ≡ releaseSpent r x

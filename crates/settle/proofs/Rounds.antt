@@ -18,8 +18,8 @@ use Rattle.window.specs.Plain.{Inside}
 use Rattle.settle.specs.State.{State, recount, rebuild, stampOver, payloadOver}
 use Rattle.settle.specs.Scan.{unmarked, found, stored, scene, Kept}
 use Rattle.settle.specs.Settle.{ready, lack, rank, better, nextBelow, next, rebuildBy, releaseAll, round}
-use Rattle.settle.specs.Held.{Below}
-use Rattle.settle.proofs.Members.{kept-below-group}
+use Rattle.rebuilding.specs.Held.{Below}
+use Rattle.rebuilding.proofs.Members.{kept-below-group}
 use Rattle.settle.proofs.Counts.{head-kept}
 
 -- states in which the same records are ready, with the same ranks, have the same next record

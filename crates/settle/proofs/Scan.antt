@@ -1,4 +1,4 @@
--- A turn of each scan: the first missing position of a line, and the best of the records so far. Assumes nothing.
+-- A turn of the scan for the best of the records so far. Assumes nothing.
 use mathlib.Core.Path.{_≡_, refl, sym, ap, _∙_}
 use mathlib.Core.Bool.{Bool, true, false, cond, _&&_, _||_, not}
 use mathlib.Core.List.{List, [], _∷_, _++_, map}
@@ -13,29 +13,6 @@ use Rattle.settle.specs.declared.Best.{Best}
 use Rattle.settle.specs.State.{State}
 use Rattle.settle.specs.Scan.{found, pick}
 use Rattle.settle.specs.Settle.{ready, rank, better, nextBelow}
-
-module _ (test : ℕ → Bool) (f : ℕ → ℕ) where
-  kept-suc : (n : ℕ) → keep test (map f (upTo (suc n))) ≡ keep test (map f (upTo n)) ++ keep test (f n ∷ [])
-  kept-suc n = ap (keep test) (map-append f (upTo n) (n ∷ [])) ∙ keep-append test (map f (upTo n)) (f n ∷ [])
-
-  -- nothing so far, and nothing here
-  pub none-more : (j : ℕ) → keep test (map f (upTo j)) ≡ [] → test (f j) ≡ false → keep test (map f (upTo (j + 1))) ≡ []
-  none-more j e h = rw add-one (kept-suc j ∙ rw (e, h))
-
-  first-split : (j n : ℕ) → j < n → keep test (map f (upTo j)) ≡ [] → test (f j) ≡ true → (rest : List ℕ) × (keep test (map f (upTo n)) ≡ f j ∷ rest)
-  first-split j zero l e h = absurd (omega arith)
-  first-split j (suc n) l e h = go (ltb j n) refl (first-split j n)
-    where
-      go : (b : Bool) → ltb j n ≡ b → (j < n → keep test (map f (upTo j)) ≡ [] → test (f j) ≡ true → (rest : List ℕ) × (keep test (map f (upTo n)) ≡ f j ∷ rest))
-          → (rest : List ℕ) × (keep test (map f (upTo (suc n))) ≡ f j ∷ rest)
-      go true q ih = let r = ih (ltb-true j n q) e h in (r .0 ++ keep test (f n ∷ []), kept-suc n ∙ rw (r .1))
-      go false q ih =
-          let m : n ≡ j = let k = ltb-false j n q in omega arith in
-          ([], kept-suc n ∙ rw (m, e, h))
-
-  -- nothing so far, and here one: it is the first
-  pub first-here : (j n : ℕ) → j < n → keep test (map f (upTo j)) ≡ [] → test (f j) ≡ true → f j ≡ headOr 0 (keep test (map f (upTo n)))
-  first-here j n l e h = let r = first-split j n l e h in rw (r .1)
 
 -- the best so far is a record, or k where there is none
 pub pick-low : (b : Best) (k r rank : ℕ) (t : Bool) → b .at ≤ k → r < k → pick b k r rank t .at ≤ k

@@ -1,5 +1,4 @@
 pub mod State
-pub mod Held
 pub mod Scan
 pub mod Counts
 pub mod Settle

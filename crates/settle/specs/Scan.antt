@@ -14,10 +14,7 @@ use Rattle.window.specs.Plain.{Inside}
 use Rattle.window.specs.Bounds.{SetUp}
 use Rattle.settle.specs.declared.Best.{Best}
 use Rattle.settle.specs.State.{State, recount}
-
--- a mark of 0
-abbrev pub unmarked : List ℕ → ℕ → Bool
-unmarked marks i = eqb (getD marks i 0) 0
+pub use Rattle.rebuilding.specs.Over.{unmarked}
 
 -- an index below k is a find, any other is none
 abbrev pub found : (k at : ℕ) → Option ℕ

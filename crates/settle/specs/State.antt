@@ -1,16 +1,11 @@
 -- What a call works on, and the single changes that it makes (01, "Taking a packet in").
-use mathlib.Core.List.{List, map}
+use mathlib.Core.List.{List}
 use Prim.Native.Nat.{ℕ, _+_, _*_, _-_}
-use lib.ListN.{getD, set, replicate}
+use lib.ListN.{set, replicate}
 use lib.Seq.{paste}
-use lib.Bits.{bitXor}
-use Rattle.xor.specs.Xor.{zipXor, xorAll}
 use Rattle.window.specs.declared.Window.{Window}
-use Rattle.sequence.specs.Lists.{keep}
-use Rattle.parity.specs.Rows.{marked}
-use Rattle.parity.specs.Sum.{rowAt}
 use Rattle.window.specs.Store.{Store}
-use Rattle.xor.specs.Xor.{xorPayloads}
+pub use Rattle.rebuilding.specs.Over.{stampOver, payloadOver}
 
 -- the window value, the store, and how many packets this call has rebuilt
 pub record State : Type 0 where
@@ -64,14 +59,6 @@ storeMedia i stamp payload x =
       store = put (x .window) (x .store) i stamp payload;
       rebuilt = x .rebuilt;
     }
-
--- a timestamp recovery xored with the timestamps held of a group
-abbrev pub stampOver : (timestamps marks group : List ℕ) → ℕ → ℕ
-stampOver timestamps marks group stamps = bitXor stamps (xorAll (map (λ i. getD timestamps i 0) (keep (marked marks) group)))
-
--- a payload recovery xored with the payloads held of a group
-abbrev pub payloadOver : (p : ℕ) (media marks group : List ℕ) → List ℕ → List ℕ
-payloadOver p media marks group payload = zipXor payload (xorPayloads p (map (rowAt p media) (keep (marked marks) group)))
 
 -- the one missing packet of a group is rebuilt: the exclusive-or of the recovery and of what is held of the group
 unfoldable pub rebuild : (group : List ℕ) → Recovery → (i : ℕ) → State → State

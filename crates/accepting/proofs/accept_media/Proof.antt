@@ -5,7 +5,7 @@ use Prim.Native.Nat.{ℕ, _<_, _+_}
 use lib.ListN.{set, length-set}
 use Rattle.sequence.specs.Wrap.{ahead}
 use Rattle.settle.specs.Scan.{stored}
-use Rattle.settle.proofs.Members.{row-ends}
+use Rattle.rebuilding.proofs.Members.{row-ends}
 use Rattle.accepting.proofs.Good.{media-good, accept-asks, accept-is, outcome-is, few-present, few-used}
 use borrow.Author.Needs.{needs}
 use Rattle.accepting.proofs.accept_media.Statement.{statement}

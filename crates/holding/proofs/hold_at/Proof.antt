@@ -1,6 +1,6 @@
 -- `holding::hold_at` meets its contract: the record and its payload are written one after the other. Assumes nothing.
 use native.Mathlib.Omega.{arith}
-use Rattle.settle.proofs.Members.{row-ends}
+use Rattle.rebuilding.proofs.Members.{row-ends}
 use borrow.Author.Needs.{needs}
 use Rattle.holding.proofs.hold_at.Statement.{statement}
 use Rattle.holding.proofs.hold_at.Tie as tie

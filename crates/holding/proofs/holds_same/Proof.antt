@@ -5,7 +5,7 @@ use borrow.Author.Tests.{eq-eqb, ne-eqb}
 use lib.ListN.{take, drop}
 use Prim.Native.Nat.{_*_}
 use Rattle.xor.specs.Same.{same}
-use Rattle.settle.proofs.Members.{row-ends}
+use Rattle.rebuilding.proofs.Members.{row-ends}
 use Rattle.holding.proofs.Held.{rest-all}
 use borrow.Author.Needs.{needs}
 use Rattle.holding.proofs.holds_same.Statement.{statement}

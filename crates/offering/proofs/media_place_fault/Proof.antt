@@ -5,7 +5,7 @@ use Prim.Native.Nat.{ℕ}
 use native.Mathlib.Omega.{arith}
 use Rattle.sequence.specs.Wrap.{ahead}
 use Rattle.settle.specs.Scan.{stored}
-use Rattle.settle.proofs.Members.{row-ends}
+use Rattle.rebuilding.proofs.Members.{row-ends}
 use Rattle.offering.proofs.Ways.{outside, free, repeated, differs}
 use borrow.Author.Needs.{needs}
 use Rattle.offering.proofs.media_place_fault.Statement.{statement}

@@ -4,7 +4,7 @@ use native.Mathlib.Omega.{arith}
 use lib.ListN.{length}
 use Rattle.window.specs.Store.{Store}
 use Rattle.calls.specs.Standing.{Standing, standing-known}
-use Rattle.settle.proofs.Members.{row-ends}
+use Rattle.rebuilding.proofs.Members.{row-ends}
 use Rattle.reading.proofs.Ways.{read-stops, read-outside, read-missing, read-done}
 use borrow.Author.Needs.{needs}
 use Rattle.reading.proofs.read_out.Statement.{statement}

@@ -6,7 +6,7 @@ use Rattle.window.specs.Store.{Store}
 use Rattle.window.specs.Plain.{groupOf, Inside, inside-of}
 use Rattle.calls.specs.Datagram.{Outer}
 use Rattle.calls.specs.Standing.{Standing, standing-known}
-use Rattle.settle.proofs.Members.{group-below, below-ends}
+use Rattle.rebuilding.proofs.Members.{group-below, below-ends}
 use Rattle.reading.proofs.Ways.{write-stops, group-stops, lies-inside, write-done}
 use borrow.Author.Needs.{needs}
 use Rattle.reading.proofs.write_parity.Statement.{statement}

@@ -6,7 +6,7 @@ use mathlib.Core.List.{[]}
 use native.Mathlib.Nat.{add-zero}
 use Rattle.settle.specs.Scan.{stored, scene}
 use Rattle.settle.specs.Settle.{releaseAll}
-use Rattle.settle.proofs.Members.{row-ends}
+use Rattle.rebuilding.proofs.Members.{row-ends}
 use Rattle.settle.proofs.Release.{asked-all, long-uses}
 use Rattle.settle.proofs.Counts.{counted-rebuilt, counted-all}
 use Rattle.settle.proofs.Rounds.{round-none, round-some, next-none, next-some, next-inside, next-missing, rebuilt-by}

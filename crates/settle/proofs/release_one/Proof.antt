@@ -3,7 +3,7 @@ use mathlib.Core.Path.{refl, sym, _∙_}
 use Prim.Native.Nat.{_-_}
 use native.Mathlib.Omega.{arith}
 use Rattle.settle.specs.Scan.{stored, scene}
-use Rattle.settle.proofs.Members.{row-ends}
+use Rattle.rebuilding.proofs.Members.{row-ends}
 use Rattle.settle.proofs.Release.{free, waits, spent}
 use borrow.Author.Needs.{needs}
 use Rattle.settle.proofs.release_one.Statement.{statement}

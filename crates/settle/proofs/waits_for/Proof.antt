@@ -7,7 +7,7 @@ use lib.ListN.{getD}
 use borrow.Author.Tests.{eq-eqb}
 use Rattle.sequence.specs.Lists.{count}
 use Rattle.window.specs.Plain.{shape-of}
-use Rattle.settle.proofs.Members.{line-group}
+use Rattle.rebuilding.proofs.Members.{line-group}
 use Rattle.settle.proofs.waits_for.Statement.{statement}
 use Rattle.settle.proofs.waits_for.Tie as tie
 

@@ -1,13 +1,13 @@
--- `settle::sum_up` meets its contract: as `add_up`, with zeros in place of what stood there. Assumes nothing.
+-- `rebuilding::sum_up` meets its contract: as `add_up`, with zeros in place of what stood there. Assumes nothing.
 use mathlib.Core.Path.{_∙_}
 use Prim.Native.Nat.{ℕ}
 use native.Mathlib.Omega.{arith}
 use lib.ListN.{replicate, length-replicate}
 use Rattle.window.specs.Plain.{groupOf}
-use Rattle.settle.proofs.Members.{rows-asked, stamps-asked, stamps-held, rows-laid}
+use Rattle.rebuilding.proofs.Members.{rows-asked, stamps-asked, stamps-held, rows-laid}
 use borrow.Author.Needs.{needs}
-use Rattle.settle.proofs.sum_up.Statement.{statement}
-use Rattle.settle.proofs.sum_up.Tie as tie
+use Rattle.rebuilding.proofs.sum_up.Statement.{statement}
+use Rattle.rebuilding.proofs.sum_up.Tie as tie
 
 members-held-requires : tie.Need-members-held-requires
 members-held-requires c κs = search needs

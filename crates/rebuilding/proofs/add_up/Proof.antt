@@ -1,11 +1,11 @@
--- `settle::add_up` meets its contract: the rows are the members that are held. Assumes nothing.
+-- `rebuilding::add_up` meets its contract: the rows are the members that are held. Assumes nothing.
 use mathlib.Core.Path.{_∙_}
 use native.Mathlib.Omega.{arith}
 use Rattle.window.specs.Plain.{groupOf}
-use Rattle.settle.proofs.Members.{rows-asked, stamps-asked, stamps-held, rows-over}
+use Rattle.rebuilding.proofs.Members.{rows-asked, stamps-asked, stamps-held, rows-over}
 use borrow.Author.Needs.{needs}
-use Rattle.settle.proofs.add_up.Statement.{statement}
-use Rattle.settle.proofs.add_up.Tie as tie
+use Rattle.rebuilding.proofs.add_up.Statement.{statement}
+use Rattle.rebuilding.proofs.add_up.Tie as tie
 
 members-held-requires : tie.Need-members-held-requires
 members-held-requires c κs = search needs

@@ -15,8 +15,8 @@ use lib.Bits.{bitXor}
 use Rattle.xor.specs.Xor.{zipXor, xorAll, xorParts, xorPayloads}
 use Rattle.parity.specs.Sum.{Ends, rowAt, pasted, parts-sum, paste-self, through-buffer, length-payloads}
 use Rattle.window.specs.Bounds.{Profile}
-use Rattle.settle.specs.State.{stampOver, payloadOver}
-use Rattle.settle.specs.Held.{Below, Held}
+use Rattle.rebuilding.specs.Over.{stampOver, payloadOver}
+use Rattle.rebuilding.specs.Held.{Below, Held}
 use Rattle.window.specs.Plain.{Inside, Shape, shape-of, groupOf, group-plain, inside-more}
 
 below-append : (b : ℕ) (l m : List ℕ) → Below b l → Below b m → Below b (l ++ m)

@@ -1,8 +1,8 @@
--- `settle::members_held` meets its contract: the rows are the members that are present. Assumes nothing.
+-- `rebuilding::members_held` meets its contract: the rows are the members that are present. Assumes nothing.
 use native.Mathlib.Omega.{arith}
-use Rattle.settle.proofs.Members.{members-asked, is-held}
-use Rattle.settle.proofs.members_held.Statement.{statement}
-use Rattle.settle.proofs.members_held.Tie as tie
+use Rattle.rebuilding.proofs.Members.{members-asked, is-held}
+use Rattle.rebuilding.proofs.members_held.Statement.{statement}
+use Rattle.rebuilding.proofs.members_held.Tie as tie
 
 position-requires : tie.Need-position-requires
 position-requires c κs = omega arith

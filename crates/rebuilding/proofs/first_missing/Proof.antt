@@ -1,13 +1,13 @@
--- `settle::first_missing` meets its contract: the line is the group. Assumes nothing.
+-- `rebuilding::first_missing` meets its contract: the line is the group. Assumes nothing.
 use mathlib.Core.Path.{ap, _∙_}
 use mathlib.Core.List.{List}
 use Prim.Native.Nat.{ℕ}
 use native.Mathlib.Omega.{arith}
 use Rattle.sequence.specs.Lists.{keep, headOr}
-use Rattle.settle.specs.Scan.{unmarked}
-use Rattle.settle.proofs.Members.{members-asked, line-group}
-use Rattle.settle.proofs.first_missing.Statement.{statement}
-use Rattle.settle.proofs.first_missing.Tie as tie
+use Rattle.rebuilding.specs.Over.{unmarked}
+use Rattle.rebuilding.proofs.Members.{members-asked, line-group}
+use Rattle.rebuilding.proofs.first_missing.Statement.{statement}
+use Rattle.rebuilding.proofs.first_missing.Tie as tie
 
 position-requires : tie.Need-position-requires
 position-requires c κs = omega arith

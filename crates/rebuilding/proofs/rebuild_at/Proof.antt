@@ -1,14 +1,14 @@
--- `settle::rebuild_at` meets its contract: the recovery goes by way of a buffer, where the rows are added up. Assumes nothing.
+-- `rebuilding::rebuild_at` meets its contract: the recovery goes by way of a buffer, where the rows are added up. Assumes nothing.
 use native.Mathlib.Omega.{arith}
 use mathlib.Core.Path.{refl, ap, _∙_}
 use Prim.Native.Nat.{_*_}
 use lib.ListN.{set, replicate}
 use Rattle.parity.specs.Rows.{marked}
 use Rattle.window.specs.Plain.{groupOf}
-use Rattle.settle.proofs.Members.{row-ends, kept-ends, through}
+use Rattle.rebuilding.proofs.Members.{row-ends, kept-ends, through}
 use borrow.Author.Needs.{needs}
-use Rattle.settle.proofs.rebuild_at.Statement.{statement}
-use Rattle.settle.proofs.rebuild_at.Tie as tie
+use Rattle.rebuilding.proofs.rebuild_at.Statement.{statement}
+use Rattle.rebuilding.proofs.rebuild_at.Tie as tie
 
 slice-aggregate-copy-at : tie.Need-slice-aggregate-copy-at
 slice-aggregate-copy-at c = omega arith

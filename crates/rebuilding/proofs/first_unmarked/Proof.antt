@@ -1,4 +1,4 @@
--- `settle::first_unmarked` meets its contract: of the members passed none is missing. Assumes nothing.
+-- `rebuilding::first_unmarked` meets its contract: of the members passed none is missing. Assumes nothing.
 use mathlib.Core.Path.{_≡_, refl}
 use mathlib.Core.List.{[]}
 use Prim.Native.Nat.{_≤_, _-_, _+_, _*_}
@@ -6,10 +6,10 @@ use native.Mathlib.Omega.{arith}
 use borrow.Author.Tests.{eq-eqb, ne-eqb}
 use Rattle.sequence.specs.Lists.{keep}
 use Rattle.parity.specs.Rows.{line}
-use Rattle.settle.specs.Scan.{unmarked}
-use Rattle.settle.proofs.Scan.{none-more, first-here}
-use Rattle.settle.proofs.first_unmarked.Statement.{statement}
-use Rattle.settle.proofs.first_unmarked.Tie as tie
+use Rattle.rebuilding.specs.Over.{unmarked}
+use Rattle.rebuilding.proofs.First.{none-more, first-here}
+use Rattle.rebuilding.proofs.first_unmarked.Statement.{statement}
+use Rattle.rebuilding.proofs.first_unmarked.Tie as tie
 
 abbrev Inv-loop : tie.InvT-loop
 Inv-loop marks at offset na j₀ j = (j ≤ na) × (keep (unmarked marks) (line at offset j) ≡ [])
