@@ -44,9 +44,9 @@ struct cgv_window {
 /* A parity packet in hand; its payload stands at the same index of the parity part. */
 struct cgv_record {
     uint8_t stream;  /* 0 a column, 1 a row */
+    uint8_t in_use;  /* 1, or 0 where the record is free */
     uint16_t snbase;
     uint32_t timestamp_recovery;
-    uint8_t in_use;  /* 1, or 0 where the record is free */
 };
 
 /* number: CGV_DONE or the refusal. count: packets rebuilt by an offer, or bytes written

@@ -9,7 +9,7 @@ use Rattle.records.specs.declared.Record.{Record}
 
 -- a free record: zeros
 abbrev pub blank : Record
-blank = record { stream = 0; snbase = 0; «timestamp_recovery» = 0; «in_use» = 0 }
+blank = record { stream = 0; «in_use» = 0; snbase = 0; «timestamp_recovery» = 0 }
 
 -- how many entries are copied: n, and no more than there are, nor than 128
 abbrev pub reached : (len n : ℕ) → ℕ

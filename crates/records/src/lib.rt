@@ -2,14 +2,14 @@
 ghost use mathlib.Core.Path.{_≡_};
 ghost use Rattle.records.specs.Table.{reached, blankRows, loaded, saved};
 
-// A parity packet in hand: its stream (0 a column, 1 a row), SNBase, timestamp recovery and in-use mark. Its payload stands
-// at the same index of the parity bytes.
+// A parity packet in hand: its stream (0 a column, 1 a row), in-use mark, SNBase and timestamp recovery, in eight bytes with
+// no gap. Its payload stands at the same index of the parity bytes.
 #[repr(C)]
 pub struct Record {
     pub stream: u8,
+    pub in_use: u8,
     pub snbase: u16,
     pub timestamp_recovery: u32,
-    pub in_use: u8,
 }
 
 // How many entries are copied: n, and no more than there are, nor than 128.
@@ -35,22 +35,16 @@ pub fn full(len: usize) -> usize
     reach(len, 128)
 }
 
-// A free record.
-pub const BLANK: Record = Record {
-    stream: 0,
-    snbase: 0,
-    timestamp_recovery: 0,
-    in_use: 0,
-};
-
-// 128 free records.
-pub const BLANKS: [Record; 128] = [BLANK; 128];
-
 // 128 records of zeros.
 pub fn blanks() -> [Record; 128]
     ensures { λ r. ⌜ r ≡ blankRows ⌝ }
 {
-    BLANKS
+    [Record {
+        stream: 0,
+        in_use: 0,
+        snbase: 0,
+        timestamp_recovery: 0,
+    }; 128]
 }
 
 // The first 128 entries of the table, and zeros after them.

@@ -6,10 +6,10 @@ use crate::SetUp;
 pub struct Record {
     /// 0 a column, 1 a row.
     pub stream: u8,
-    pub snbase: u16,
-    pub timestamp_recovery: u32,
     /// 1, or 0 where the record is free.
     pub in_use: u8,
+    pub snbase: u16,
+    pub timestamp_recovery: u32,
 }
 
 /// A store that is lent: n × P bytes of media, n timestamps, n marks, K × P bytes of parity and K records, or more.

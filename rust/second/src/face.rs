@@ -19,9 +19,9 @@ struct CWindow {
 #[repr(C)]
 struct CRecord {
     stream: u8,
+    in_use: u8,
     snbase: u16,
     timestamp_recovery: u32,
-    in_use: u8,
 }
 
 #[repr(C)]
@@ -31,31 +31,30 @@ struct CAnswer {
     window: CWindow,
 }
 
-/// A record as the bytes it is lent in, gaps between the fields included.
+/// A record as the bytes it is lent in.
 #[repr(C, align(4))]
 #[derive(Clone, Copy, Debug, PartialEq, Eq)]
-pub struct RawRecord(pub [u8; 12]);
+pub struct RawRecord(pub [u8; 8]);
 
-const _: () = assert!(std::mem::size_of::<CRecord>() == 12 && std::mem::align_of::<CRecord>() == 4);
-const _: () = assert!(std::mem::offset_of!(CRecord, stream) == 0 && std::mem::offset_of!(CRecord, snbase) == 2);
-const _: () = assert!(std::mem::offset_of!(CRecord, timestamp_recovery) == 4 && std::mem::offset_of!(CRecord, in_use) == 8);
+const _: () = assert!(std::mem::size_of::<CRecord>() == 8 && std::mem::align_of::<CRecord>() == 4);
+const _: () = assert!(std::mem::offset_of!(CRecord, stream) == 0 && std::mem::offset_of!(CRecord, in_use) == 1);
+const _: () = assert!(std::mem::offset_of!(CRecord, snbase) == 2 && std::mem::offset_of!(CRecord, timestamp_recovery) == 4);
 
 impl RawRecord {
-    /// The gaps keep what they have.
     pub fn set(&mut self, record: Record) {
         self.0[0] = record.stream;
+        self.0[1] = record.in_use;
         self.0[2..4].copy_from_slice(&record.snbase.to_ne_bytes());
         self.0[4..8].copy_from_slice(&record.timestamp_recovery.to_ne_bytes());
-        self.0[8] = record.in_use;
     }
 
     pub fn get(&self) -> Record {
         let b = &self.0;
         Record {
             stream: b[0],
+            in_use: b[1],
             snbase: u16::from_ne_bytes([b[2], b[3]]),
             timestamp_recovery: u32::from_ne_bytes([b[4], b[5], b[6], b[7]]),
-            in_use: b[8],
         }
     }
 }
@@ -195,7 +194,7 @@ impl Receiver {
             timestamps: vec![0xA5A5; n],
             marks: vec![0xA5; n],
             parity: vec![0xA5; k * p],
-            records: vec![RawRecord([0xA5; 12]); k],
+            records: vec![RawRecord([0xA5; 8]); k],
         };
         let answer = open(asked, &mut receiver.lend());
         if answer.number != 0 {

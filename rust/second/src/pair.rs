@@ -57,7 +57,7 @@ impl Pair {
         rng.fill(&mut parity);
         let timestamps: Vec<u32> = (0..size.timestamps).map(|_| rng.next() as u32).collect();
         let marks: Vec<u8> = (0..size.marks).map(|_| rng.pick(&[0, 1, 1, 2, 255])).collect();
-        let mut raw = vec![RawRecord([0; 12]); size.records];
+        let mut raw = vec![RawRecord([0; 8]); size.records];
         for record in &mut raw {
             rng.fill(&mut record.0);
         }
@@ -158,7 +158,7 @@ impl Pair {
             if self.records[i] != self.raw[i].get() {
                 faults.push(format!("record {i}: model {:?}, library {:?}", self.records[i], self.raw[i].get()));
             }
-            // Where nothing may be written, the gaps between a record's fields are looked at as well.
+            // Where nothing may be written, the bytes are looked at as well.
             let untouchable = ours.number != 0 || writes_out || i as u64 >= ours.window.k;
             if untouchable && self.raw[i] != self.raw_before[i] {
                 faults.push(format!("record {i}: the library wrote to it, was {:?}, is {:?}", self.raw_before[i].0, self.raw[i].0));

@@ -176,7 +176,7 @@ module _ {M : Type 1} (𝓤 : URA M) (H : Heap 𝓤) (A : Atoms 𝓤) (W : Given
           let ly : i .0 < length ys = omega arith in
           let lz : i .0 < length (upto (i .0)) = omega (arith, same-length (i .0) (i .1)) in
           let room : length ys < 2 ^ 64 = gn .0 in
-          let fit : Fits w64 (i .0 * 12) = scaled-fits (i .0) (length ys) 12 ly (gn .1) in
+          let fit : Fits w64 (i .0 * 8) = scaled-fits (i .0) (length ys) 8 ly (gn .1) in
           let next-fit : Fits w64 (i .0 + 1) = record { fits = omega arith } in
           let next : Upto = (i .0 + 1, omega arith) in
           let nearer : Nearer next i = omega arith in
@@ -184,7 +184,7 @@ module _ {M : Type 1} (𝓤 : URA M) (H : Heap 𝓤) (A : Atoms 𝓤) (W : Given
           rewrite ! 16 (λ (t : Bool). ‵ (fat fullShare tyBool l₇ 0 (vbool t))) t refl $ stays ! (load ! (from ! (stop !)) (look ! 16 refl)) $
           assigns ! (bin ! (load ! (from ! (stop !)) (look ! 22 refl)) (lit ! tt) fit) (from ! (stop !)) (init ! 14 refl (tt, fit)) $
           assigns ! (bin ! (load ! (from ! (fld ! refl (stop !))) (look-in ! 27 (sub ! 0 refl (whole !)))) (load ! (from ! (stop !)) (look ! 14 refl)) tt) (from ! (stop !)) (init ! 12 refl (tt, tt)) $
-          rewrite ! 12 (λ (p : ℕ). ‵ (fat fullShare tyPtr l₉ 0 (vptr b p))) (sym (place-is 12 o (i .0))) refl $
+          rewrite ! 12 (λ (p : ℕ). ‵ (fat fullShare tyPtr l₉ 0 (vptr b p))) (sym (place-is 8 o (i .0))) refl $
           -- the table's element is read
           elem-out ! T.the-row (Is T.the-row) (shows 𝓤 H A T.the-row) vals (LL.tells T.the-type T′.the-laws) q′ ys (i .0) blank b o ly (λ g.
           assigns ! (of-opd ! (load ! (from ! (hop ! (look ! 14 refl) (stop !))) (look-raw ! 0 refl))) (from ! (stop !)) (init ! 12 refl (LL.lawful T.the-type T′.the-laws 𝓤 H A W .typed (elem (i .0)) _ g .0)) $
@@ -192,7 +192,7 @@ module _ {M : Type 1} (𝓤 : URA M) (H : Heap 𝓤) (A : Atoms 𝓤) (W : Given
           assigns ! (bin ! (load ! (from ! (stop !)) (look ! 22 refl)) (lit ! tt) fit) (from ! (stop !)) (init ! 8 refl (tt, fit)) $
           assigns ! (addr ! (from ! (stop !))) (from ! (stop !)) (init ! 6 refl (tt, tt)) $
           assigns ! (bin ! (load ! (from ! (stop !)) (look ! 6 refl)) (load ! (from ! (stop !)) (look ! 8 refl)) tt) (from ! (stop !)) (init ! 4 refl (tt, tt)) $
-          rewrite ! 4 (λ (p : ℕ). ‵ (fat fullShare tyPtr l₁₃ 0 (vptr l₃ p))) (sym (place-is 12 0 (i .0))) refl $
+          rewrite ! 4 (λ (p : ℕ). ‵ (fat fullShare tyPtr l₁₃ 0 (vptr l₃ p))) (sym (place-is 8 0 (i .0))) refl $
           -- the array's is stored to
           move ! (1 ∷ []) $ elem-out ! T.the-row (Is T.the-row) (shows 𝓤 H A T.the-row) vals (LL.tells T.the-type T′.the-laws) fullShare (upto (i .0)) (i .0) blank l₃ 0 lz (λ _.
           assigns ! (of-opd ! (load ! (from ! (stop !)) (look ! 12 refl))) (from ! (hop ! (look ! 6 refl) (stop !))) (store-raw ! 0 refl (LL.lawful T.the-type T′.the-laws 𝓤 H A W .typed (elem (i .0)) _ g .0)) $

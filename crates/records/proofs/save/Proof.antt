@@ -163,7 +163,7 @@ module _ {M : Type 1} (𝓤 : URA M) (H : Heap 𝓤) (A : Atoms 𝓤) (W : Given
           let ly : i .0 < length ys = omega arith in
           let lz : i .0 < length (upto (i .0)) = omega (arith, same-length (i .0) (i .1)) in
           let room : length ys < 2 ^ 64 = gn .0 in
-          let fit : Fits w64 (i .0 * 12) = scaled-fits (i .0) (length ys) 12 ly (gn .1) in
+          let fit : Fits w64 (i .0 * 8) = scaled-fits (i .0) (length ys) 8 ly (gn .1) in
           let next-fit : Fits w64 (i .0 + 1) = record { fits = omega arith } in
           let next : Upto = (i .0 + 1, omega arith) in
           let nearer : Nearer next i = omega arith in
@@ -172,14 +172,14 @@ module _ {M : Type 1} (𝓤 : URA M) (H : Heap 𝓤) (A : Atoms 𝓤) (W : Given
           assigns ! (bin ! (load ! (from ! (stop !)) (look ! 22 refl)) (lit ! tt) fit) (from ! (stop !)) (init ! 16 refl (tt, fit)) $
           assigns ! (addr ! (from ! (stop !))) (from ! (stop !)) (init ! 14 refl (tt, tt)) $
           assigns ! (bin ! (load ! (from ! (stop !)) (look ! 14 refl)) (load ! (from ! (stop !)) (look ! 16 refl)) tt) (from ! (stop !)) (init ! 12 refl (tt, tt)) $
-          rewrite ! 12 (λ (p : ℕ). ‵ (fat fullShare tyPtr l₁₁ 0 (vptr l₄ p))) (sym (place-is 12 0 (i .0))) refl $
+          rewrite ! 12 (λ (p : ℕ). ‵ (fat fullShare tyPtr l₁₁ 0 (vptr l₄ p))) (sym (place-is 8 0 (i .0))) refl $
           -- the array's element is read
           move ! (1 ∷ []) $ elem-out ! T.the-row (Is T.the-row) (shows 𝓤 H A T.the-row) vals (LL.tells T.the-type T′.the-laws) fullShare rs (i .0) blank l₄ 0 lrs (λ g.
           assigns ! (of-opd ! (load ! (from ! (hop ! (look ! 14 refl) (stop !))) (look-raw ! 0 refl))) (from ! (stop !)) (init ! 12 refl (LL.lawful T.the-type T′.the-laws 𝓤 H A W .typed (getD rs (i .0) blank) _ g .0)) $
           elem-back ! T.the-row fullShare rs (i .0) blank (mach (i .0) ∷ []) l₄ 0 lrs $ move ! (1 ∷ []) $
           assigns ! (bin ! (load ! (from ! (stop !)) (look ! 22 refl)) (lit ! tt) fit) (from ! (stop !)) (init ! 8 refl (tt, fit)) $
           assigns ! (bin ! (load ! (from ! (fld ! refl (stop !))) (look-in ! 31 (sub ! 0 refl (whole !)))) (load ! (from ! (stop !)) (look ! 8 refl)) tt) (from ! (stop !)) (init ! 6 refl (tt, tt)) $
-          rewrite ! 6 (λ (p : ℕ). ‵ (fat fullShare tyPtr l₁₄ 0 (vptr b p))) (sym (place-is 12 o (i .0))) refl $
+          rewrite ! 6 (λ (p : ℕ). ‵ (fat fullShare tyPtr l₁₄ 0 (vptr b p))) (sym (place-is 8 o (i .0))) refl $
           -- the table's is stored to
           elem-out ! T.the-row (Is T.the-row) (shows 𝓤 H A T.the-row) vals (LL.tells T.the-type T′.the-laws) fullShare (upto (i .0)) (i .0) blank b o lz (λ _.
           assigns ! (of-opd ! (load ! (from ! (stop !)) (look ! 12 refl))) (from ! (hop ! (look ! 8 refl) (stop !))) (store-raw ! 0 refl (LL.lawful T.the-type T′.the-laws 𝓤 H A W .typed (getD rs (i .0) blank) _ g .0)) $
