@@ -1,6 +1,6 @@
 // The lent table of records: the parity packets in hand (01, "Setting up a window"), copied into an array by value and back.
 ghost use mathlib.Core.Path.{_≡_};
-ghost use Rattle.records.specs.Table.{reached, blankRows, loaded, saved};
+ghost use Rattle.records.specs.Table.{reached, blankRows, loaded, saved, allFree};
 
 // A parity packet in hand: its stream (0 a column, 1 a row), in-use mark, SNBase and timestamp recovery, in eight bytes with
 // no gap. Its payload stands at the same index of the parity bytes.
@@ -71,4 +71,18 @@ pub fn save(table: &mut [Record], n: usize, rows: [Record; 128])
         table[i] = rows[i];
         i += 1;
     }
+}
+
+// None of the first n entries is in use, as far as the table and 128 reach.
+pub fn idle(table: &[Record], n: usize) -> bool
+    ensures { λ r. ⌜ r ≡ allFree (now (table .entry)) n ⌝ }
+{
+    let m = reach(table.len(), n);
+    let mut free = true;
+    let mut i = 0;
+    while i < m {
+        free = free & (table[i].in_use == 0);
+        i += 1;
+    }
+    free
 }
