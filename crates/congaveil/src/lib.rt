@@ -1,5 +1,6 @@
 // The library for cards in C and Rust: the calls of document 01 over what a card lends, its records a table.
 // Every call ends on every input; a refused one gives back its number and changes nothing that was lent.
+// Where no record is in use, media are offered, packets read and parity written without a copy of the table.
 use records::Record;
 use tabled::Reply;
 use window::Window;
@@ -61,6 +62,9 @@ pub extern "C" fn cgv_media(
     ensures { λ r. ⌜ record { reply = r; lent = record { media = now (media .exit); timestamps = now (timestamps .exit); marks = now (marks .exit); parity = now (parity .exit); records = now (records .exit) } }
         ≡ mediaTable w (now (datagram .entry)) (record { media = now (media .entry); timestamps = now (timestamps .entry); marks = now (marks .entry); parity = now (parity .entry); records = now (records .entry) }) ⌝ }
 {
+    if records::idle(records, w.k) {
+        return tabled::media_idle(w, datagram, media, timestamps, marks, parity, records.len());
+    }
     let rows = records::load(records);
     let done = tabled::media_rows(
         w,
@@ -149,6 +153,18 @@ pub extern "C" fn cgv_read(
     ensures { λ r. ⌜ record { reply = r; out = now (out .exit) }
         ≡ readTable w number (record { media = now (media .entry); timestamps = now (timestamps .entry); marks = now (marks .entry); parity = now (parity .entry); records = now (records .entry) }) (now (out .entry)) ⌝ }
 {
+    if records::idle(records, w.k) {
+        return tabled::read_idle(
+            w,
+            number,
+            media,
+            timestamps,
+            marks,
+            parity,
+            records.len(),
+            out,
+        );
+    }
     let rows = records::load(records);
     tabled::read_rows(
         w,
@@ -181,6 +197,21 @@ pub extern "C" fn cgv_write_column(
     ensures { λ r. ⌜ record { reply = r; out = now (out .exit) }
         ≡ wroteTable column w snbase (record { sequence = sequence; timestamp = timestamp; ssrc = ssrc }) (record { media = now (media .entry); timestamps = now (timestamps .entry); marks = now (marks .entry); parity = now (parity .entry); records = now (records .entry) }) (now (out .entry)) ⌝ }
 {
+    if records::idle(records, w.k) {
+        return tabled::write_column_idle(
+            w,
+            snbase,
+            sequence,
+            timestamp,
+            ssrc,
+            media,
+            timestamps,
+            marks,
+            parity,
+            records.len(),
+            out,
+        );
+    }
     let rows = records::load(records);
     tabled::write_column_rows(
         w,
@@ -216,6 +247,21 @@ pub extern "C" fn cgv_write_row(
     ensures { λ r. ⌜ record { reply = r; out = now (out .exit) }
         ≡ wroteTable row w snbase (record { sequence = sequence; timestamp = timestamp; ssrc = ssrc }) (record { media = now (media .entry); timestamps = now (timestamps .entry); marks = now (marks .entry); parity = now (parity .entry); records = now (records .entry) }) (now (out .entry)) ⌝ }
 {
+    if records::idle(records, w.k) {
+        return tabled::write_row_idle(
+            w,
+            snbase,
+            sequence,
+            timestamp,
+            ssrc,
+            media,
+            timestamps,
+            marks,
+            parity,
+            records.len(),
+            out,
+        );
+    }
     let rows = records::load(records);
     tabled::write_row_rows(
         w,

@@ -46,6 +46,10 @@ use Rattle.records.proofs.Record as T
 use Rattle.records.proofs.load.Symbol as load-def
 use Rattle.records.proofs.load.Symbol.{name as #records·load}
 use Rattle.records.proofs.load.Met as load-thm
+use Rattle.tabled.proofs.column_rows as work-f
+use Rattle.tabled.proofs.column_rows.Symbol as work-def
+use Rattle.tabled.proofs.column_rows.Symbol.{name as #tabled·column-rows}
+use Rattle.tabled.proofs.column_rows.Met as work-thm
 use Rattle.records.proofs.save.Symbol as save-def
 use Rattle.records.proofs.save.Symbol.{name as #records·save}
 use Rattle.records.proofs.save.Met as save-thm
@@ -63,11 +67,7 @@ use Rattle.calls.specs.Call.{offeredParity}
 use Rattle.tabled.specs.Table.{parityTable}
 use Rattle.tabled.specs.Work.{Worked}
 use Rattle.tabled.specs.Whole.{whole as the-three, parity-keeps}
-use Rattle.congaveil.proofs.Lent.{Rows, rows-is, Load, Save, loads, saves}
-use Rattle.tabled.proofs.column_rows as rows-f
-use Rattle.tabled.proofs.column_rows.Symbol as rows-def
-use Rattle.tabled.proofs.column_rows.Symbol.{name as #tabled·column-rows}
-use Rattle.tabled.proofs.column_rows.Met as rows-thm
+use Rattle.congaveil.proofs.Lent.{Rows, rows-is, rows-typed, Load, Save, loading, lends, saves}
 use Rattle.congaveil.proofs.cgv_column.Key.{name as #congaveil·cgv-column}
 use Rattle.congaveil.proofs.cgv_column as f
 use Rattle.congaveil.proofs.cgv_column.Statement as stated
@@ -85,7 +85,7 @@ stayed = (stay-none (λ _. Window.the-row) yes, (stay-none-slice (0 ∷ []) tt (
 
 module _ {M : Type 1} (𝓤 : URA M) (H : Heap 𝓤) (A : Atoms 𝓤) (at-mem : Memory → SProp 𝓤) (run : Routine → Fun 𝓤) where
   abbrev Work : Contract 𝓤
-  Work = tripleOf 𝓤 H A rows-f.signature (rows-f.spec 𝓤 H A at-mem run)
+  Work = tripleOf 𝓤 H A work-f.signature (work-f.spec 𝓤 H A at-mem run)
 
 module _ {M : Type 1} (𝓤 : URA M) (H : Heap 𝓤) (A : Atoms 𝓤) (W : Given 𝓤 H A) (at-mem : Memory → SProp 𝓤) (run : Routine → Fun 𝓤) (κ₀ κ₁ κ₂ κ₃ κ₄ κ₅ : Lft) (q₀ q₁ q₂ q₃ q₄ q₅ : Share) (x₁ : Window) (x₂ : RefT (List ℕ)) (x₃ : RefT (List ℕ)) (x₄ : RefT (List ℕ)) (x₅ : RefT (List ℕ)) (x₆ : RefT (List ℕ)) (x₇ : RefT (List Record)) (g₁ : Is Window.the-row x₁ (LL.val Window.the-type Window′.the-laws x₁ ∷ [])) (g₂ : Room u8 (length (x₂ .now))) (g₃ : Room u8 (length (x₃ .now))) (g₄ : Room u32 (length (x₄ .now))) (g₅ : Room u8 (length (x₅ .now))) (g₆ : Room u8 (length (x₆ .now))) (g₇ : Room T.the-row (length (x₇ .now))) where
   abbrev v₁ : Val
@@ -119,16 +119,14 @@ module _ {M : Type 1} (𝓤 : URA M) (H : Heap 𝓤) (A : Atoms 𝓤) (W : Given
   abbrev to-work : List Record → Val → Work 𝓤 H A at-mem run .Ghost
   to-work rs w = (((κ₀, (κ₁, (κ₂, (κ₃, (κ₄, tt))))), (q₀, (q₁, (q₂, (q₃, (q₄, tt))))), tt, (x₁, (x₂, (x₃, (x₄, (x₅, (x₆, (rs, (length (x₇ .now), tt)))))))), (v₁ ∷ [], (v₂ ∷ [], (v₃ ∷ [], (v₄ ∷ [], (v₅ ∷ [], (v₆ ∷ [], (w ∷ [], (vint w64 (length (x₇ .now)) ∷ [], tt))))))))), tt)
 
-  goes-work : (rs : List Record) (w : Val) → ent 𝓤 (onEntry 𝓤 H A rows-f.signature (κ₀, (κ₁, (κ₂, (κ₃, (κ₄, tt))))) (q₀, (q₁, (q₂, (q₃, (q₄, tt))))) (x₁, (x₂, (x₃, (x₄, (x₅, (x₆, (rs, (length (x₇ .now), tt)))))))) (v₁ ∷ [], (v₂ ∷ [], (v₃ ∷ [], (v₄ ∷ [], (v₅ ∷ [], (v₆ ∷ [], (w ∷ [], (vint w64 (length (x₇ .now)) ∷ [], tt))))))))) (Work 𝓤 H A at-mem run .pre (to-work rs w))
+  goes-work : (rs : List Record) (w : Val) → ent 𝓤 (onEntry 𝓤 H A work-f.signature (κ₀, (κ₁, (κ₂, (κ₃, (κ₄, tt))))) (q₀, (q₁, (q₂, (q₃, (q₄, tt))))) (x₁, (x₂, (x₃, (x₄, (x₅, (x₆, (rs, (length (x₇ .now), tt)))))))) (v₁ ∷ [], (v₂ ∷ [], (v₃ ∷ [], (v₄ ∷ [], (v₅ ∷ [], (v₆ ∷ [], (w ∷ [], (vint w64 (length (x₇ .now)) ∷ [], tt))))))))) (Work 𝓤 H A at-mem run .pre (to-work rs w))
   goes-work rs w = qed W ((‵ (flft κ₀ q₀) ⊛ (‵ (flft κ₁ q₁) ⊛ (‵ (flft κ₂ q₂) ⊛ (‵ (flft κ₃ q₃) ⊛ (‵ (flft κ₄ q₄) ⊛ (‵ ftrue)))))) ∷ ‵ (owns (Window.the-row ∷ ShrSlice (named 0) κ₀ u8 ∷ MutSlice (named 1) κ₁ u8 ∷ MutSlice (named 2) κ₂ u32 ∷ MutSlice (named 3) κ₃ u8 ∷ MutSlice (named 4) κ₄ u8 ∷ Rows ∷ usize ∷ []) (x₁, (x₂, (x₃, (x₄, (x₅, (x₆, (rs, (length (x₇ .now), tt)))))))) (v₁ ∷ [], (v₂ ∷ [], (v₃ ∷ [], (v₄ ∷ [], (v₅ ∷ [], (v₆ ∷ [], (w ∷ [], (vint w64 (length (x₇ .now)) ∷ [], tt))))))))) ∷ []) ∵ join ! $ frame ! $ done !
 
-  exits : (r : Finished) (w : Val) → Is Finished.the-row r (w ∷ []) → (z₃ : List ℕ) (z₄ : List ℕ) (z₅ : List ℕ) (z₆ : List ℕ) (z₇ : List Record) → (l₃ : length z₃ ≡ length (x₃ .now)) (l₄ : length z₄ ≡ length (x₄ .now)) (l₅ : length z₅ ≡ length (x₅ .now)) (l₆ : length z₆ ≡ length (x₆ .now)) (l₇ : length z₇ ≡ length (x₇ .now)) → record { reply = r .reply; lent = (record { media = z₃; timestamps = z₄; marks = z₅; parity = z₆; records = z₇ }) } ≡ parityTable column x₁ (x₂ .now) (record { media = x₃ .now; timestamps = x₄ .now; marks = x₅ .now; parity = x₆ .now; records = x₇ .now })
-      → ent 𝓤 (⋆ 𝓤 H A (‵ (flft κ₅ q₅) ∷ ‵ (finally T.the-row (x₇ .name) z₇) ∷ (‵ (flft κ₀ q₀) ⊛ (‵ (flft κ₁ q₁) ⊛ (‵ (flft κ₂ q₂) ⊛ (‵ (flft κ₃ q₃) ⊛ (‵ (flft κ₄ q₄) ⊛ (‵ ftrue)))))) ∷ ‵ (finally u8 (x₆ .name) z₆) ∷ ‵ (finally u8 (x₅ .name) z₅) ∷ ‵ (finally u32 (x₄ .name) z₄) ∷ ‵ (finally u8 (x₃ .name) z₃) ∷ ‵ (ShrSlice (named 0) κ₀ u8 .own x₂ (v₂ ∷ [])) ∷ [])) (Post (LL.val Reply.the-type Reply′.the-laws (r .reply)))
+  exits : (r : Reply) (w : Val) → Is Reply.the-row r (w ∷ []) → (z₃ : List ℕ) (z₄ : List ℕ) (z₅ : List ℕ) (z₆ : List ℕ) (z₇ : List Record) → (l₃ : length z₃ ≡ length (x₃ .now)) (l₄ : length z₄ ≡ length (x₄ .now)) (l₅ : length z₅ ≡ length (x₅ .now)) (l₆ : length z₆ ≡ length (x₆ .now)) (l₇ : length z₇ ≡ length (x₇ .now)) → record { reply = r; lent = (record { media = z₃; timestamps = z₄; marks = z₅; parity = z₆; records = z₇ }) } ≡ parityTable column x₁ (x₂ .now) (record { media = x₃ .now; timestamps = x₄ .now; marks = x₅ .now; parity = x₆ .now; records = x₇ .now }) → ent 𝓤 (⋆ 𝓤 H A (‵ (flft κ₅ q₅) ∷ ‵ (finally T.the-row (x₇ .name) z₇) ∷ (‵ (flft κ₀ q₀) ⊛ (‵ (flft κ₁ q₁) ⊛ (‵ (flft κ₂ q₂) ⊛ (‵ (flft κ₃ q₃) ⊛ (‵ (flft κ₄ q₄) ⊛ (‵ ftrue)))))) ∷ ‵ (finally u8 (x₆ .name) z₆) ∷ ‵ (finally u8 (x₅ .name) z₅) ∷ ‵ (finally u32 (x₄ .name) z₄) ∷ ‵ (finally u8 (x₃ .name) z₃) ∷ ‵ (ShrSlice (named 0) κ₀ u8 .own x₂ (v₂ ∷ [])) ∷ [])) (Post w)
   exits r w p z₃ z₄ z₅ z₆ z₇ l₃ l₄ l₅ l₆ l₇ e =
-      let owed = LL.owed Finished.the-type Finished′.the-laws r _ p in
       qed W (‵ (flft κ₅ q₅) ∷ ‵ (finally T.the-row (x₇ .name) z₇) ∷ (‵ (flft κ₀ q₀) ⊛ (‵ (flft κ₁ q₁) ⊛ (‵ (flft κ₂ q₂) ⊛ (‵ (flft κ₃ q₃) ⊛ (‵ (flft κ₄ q₄) ⊛ (‵ ftrue)))))) ∷ ‵ (finally u8 (x₆ .name) z₆) ∷ ‵ (finally u8 (x₅ .name) z₅) ∷ ‵ (finally u32 (x₄ .name) z₄) ∷ ‵ (finally u8 (x₃ .name) z₃) ∷ ‵ (ShrSlice (named 0) κ₀ u8 .own x₂ (v₂ ∷ [])) ∷ []) ∵
-      suffices ! _ (ends-at 𝓤 H A f.ended stayed (f.clauses 𝓤 H A at-mem run) W (((κ₀, (κ₁, (κ₂, (κ₃, (κ₄, (κ₅, tt)))))), (q₀, (q₁, (q₂, (q₃, (q₄, (q₅, tt)))))), tt, a, (v₁ ∷ [], (v₂ ∷ [], (v₃ ∷ [], (v₄ ∷ [], (v₅ ∷ [], (v₆ ∷ [], (v₇ ∷ [], tt)))))))), tt) _ (r .reply) (tt, (tt, (z₃, (z₄, (z₅, (z₆, (z₇, tt))))))) (tt, (tt, (l₃, (l₄, (l₅, (l₆, (l₇, tt)))))))) $ says ! e $
-      nothing ! $ move ! (2 ∷ 0 ∷ []) $ fjoin ! $ move ! (3 ∷ 0 ∷ []) $ fjoin ! $ move ! (3 ∷ 0 ∷ []) $ fjoin ! $ move ! (3 ∷ 0 ∷ []) $ fjoin ! $ move ! (3 ∷ 0 ∷ []) $ fjoin ! $ move ! (3 ∷ 0 ∷ []) $ fjoin ! $ owned ! Window.the-row (Is Window.the-row) (LL.makes Window.the-type Window′.the-plain 𝓤 H A) x₁ (v₁ ∷ []) g₁ $ fjoin ! $ move ! (2 ∷ []) $ split ! $ move ! (1 ∷ []) $ split ! $ move ! (1 ∷ []) $ split ! $ move ! (1 ∷ []) $ split ! $ move ! (1 ∷ []) $ split ! $ move ! (1 ∷ []) $ move ! (7 ∷ 0 ∷ []) $ join ! $ move ! (1 ∷ 0 ∷ []) $ join ! $ move ! (1 ∷ 0 ∷ []) $ join ! $ move ! (1 ∷ 0 ∷ []) $ join ! $ move ! (1 ∷ 0 ∷ []) $ join ! $ move ! (1 ∷ 0 ∷ []) $ join ! $ frame ! $ frame ! $ owned ! Reply.the-row (Is Reply.the-row) (LL.makes Reply.the-type Reply′.the-plain 𝓤 H A) (r .reply) _ (owed .0) $ done !
+      suffices ! _ (ends-at 𝓤 H A f.ended stayed (f.clauses 𝓤 H A at-mem run) W (((κ₀, (κ₁, (κ₂, (κ₃, (κ₄, (κ₅, tt)))))), (q₀, (q₁, (q₂, (q₃, (q₄, (q₅, tt)))))), tt, a, (v₁ ∷ [], (v₂ ∷ [], (v₃ ∷ [], (v₄ ∷ [], (v₅ ∷ [], (v₆ ∷ [], (v₇ ∷ [], tt)))))))), tt) _ (r) (tt, (tt, (z₃, (z₄, (z₅, (z₆, (z₇, tt))))))) (tt, (tt, (l₃, (l₄, (l₅, (l₆, (l₇, tt)))))))) $ says ! e $
+      nothing ! $ move ! (2 ∷ 0 ∷ []) $ fjoin ! $ move ! (3 ∷ 0 ∷ []) $ fjoin ! $ move ! (3 ∷ 0 ∷ []) $ fjoin ! $ move ! (3 ∷ 0 ∷ []) $ fjoin ! $ move ! (3 ∷ 0 ∷ []) $ fjoin ! $ move ! (3 ∷ 0 ∷ []) $ fjoin ! $ owned ! Window.the-row (Is Window.the-row) (LL.makes Window.the-type Window′.the-plain 𝓤 H A) x₁ (v₁ ∷ []) g₁ $ fjoin ! $ move ! (2 ∷ []) $ split ! $ move ! (1 ∷ []) $ split ! $ move ! (1 ∷ []) $ split ! $ move ! (1 ∷ []) $ split ! $ move ! (1 ∷ []) $ split ! $ move ! (1 ∷ []) $ move ! (7 ∷ 0 ∷ []) $ join ! $ move ! (1 ∷ 0 ∷ []) $ join ! $ move ! (1 ∷ 0 ∷ []) $ join ! $ move ! (1 ∷ 0 ∷ []) $ join ! $ move ! (1 ∷ 0 ∷ []) $ join ! $ move ! (1 ∷ 0 ∷ []) $ join ! $ frame ! $ frame ! $ owned ! Reply.the-row (Is Reply.the-row) (LL.makes Reply.the-type Reply′.the-plain 𝓤 H A) r (w ∷ []) p $ done !
 
   whole-said : (rs : List Record) (r : Finished) (z₃ : List ℕ) (z₄ : List ℕ) (z₅ : List ℕ) (z₆ : List ℕ) (z₇ : List Record) → rs ≡ loaded (x₇ .now) → Worked (reached (length (x₇ .now)) (x₁ .k)) (offeredParity column x₁ (x₂ .now)) (record { media = x₃ .now; timestamps = x₄ .now; marks = x₅ .now; parity = x₆ .now; records = rs }) (record { media = z₃; timestamps = z₄; marks = z₅; parity = z₆; records = r .rows }) r → z₇ ≡ saved (x₇ .now) (r .n) (r .rows) → record { reply = r .reply; lent = (record { media = z₃; timestamps = z₄; marks = z₅; parity = z₆; records = z₇ }) } ≡ parityTable column x₁ (x₂ .now) (record { media = x₃ .now; timestamps = x₄ .now; marks = x₅ .now; parity = x₆ .now; records = x₇ .now })
   unfolding parityTable
@@ -140,11 +138,11 @@ module _ {M : Type 1} (𝓤 : URA M) (H : Heap 𝓤) (A : Atoms 𝓤) (W : Given
         qed W ((‵ (flft κ₀ q₀) ⊛ (‵ (flft κ₁ q₁) ⊛ (‵ (flft κ₂ q₂) ⊛ (‵ (flft κ₃ q₃) ⊛ (‵ (flft κ₄ q₄) ⊛ (‵ (flft κ₅ q₅) ⊛ (‵ ftrue))))))) ∷ ‵ (owns (Window.the-row ∷ ShrSlice (named 0) κ₀ u8 ∷ MutSlice (named 1) κ₁ u8 ∷ MutSlice (named 2) κ₂ u32 ∷ MutSlice (named 3) κ₃ u8 ∷ MutSlice (named 4) κ₄ u8 ∷ MutSlice (named 5) κ₅ T.the-row ∷ []) a (v₁ ∷ [], (v₂ ∷ [], (v₃ ∷ [], (v₄ ∷ [], (v₅ ∷ [], (v₆ ∷ [], (v₇ ∷ [], tt)))))))) ∷ []) ∵ enter ! (𝓣 .C) (𝓣 .Λ) code.function (v₁ ∷ v₂ ∷ v₃ ∷ v₄ ∷ v₅ ∷ v₆ ∷ v₇ ∷ []) _ $
         alloc1 ! (λ l₀. alloc1 ! (λ l₁. alloc1 ! (λ l₂. alloc1 ! (λ l₃. alloc1 ! (λ l₄. alloc1 ! (λ l₅. alloc1 ! (λ l₆. alloc1 ! (λ l₇. alloc1 ! (λ l₈. alloc1 ! (λ l₉. alloc1 ! (λ l₁₀. alloc1 ! (λ l₁₁. alloc1 ! (λ l₁₂. alloc1 ! (λ l₁₃. alloc1 ! (λ l₁₄. alloc1 ! (λ l₁₅. alloc1 ! (λ l₁₆. alloc1 ! (λ l₁₇. alloc1 ! (λ l₁₈. alloc1 ! (λ l₁₉. alloc1 ! (λ l₂₀. alloc1 ! (λ l₂₁. alloc1 ! (λ l₂₂. alloc1 ! (λ l₂₃. alloc0 ! $ params1 ! $
         pass1 ! (init ! 44 refl (LL.lawful Window.the-type Window′.the-laws 𝓤 H A W .typed x₁ _ g₁ .0)) $ pass1 ! (init ! 42 refl (tt, (tt, (record { fits = g₂ .0 }, tt)))) $ pass1 ! (init ! 40 refl (tt, (tt, (record { fits = g₃ .0 }, tt)))) $ pass1 ! (init ! 38 refl (tt, (tt, (record { fits = g₄ .0 }, tt)))) $ pass1 ! (init ! 36 refl (tt, (tt, (record { fits = g₅ .0 }, tt)))) $ pass1 ! (init ! 34 refl (tt, (tt, (record { fits = g₆ .0 }, tt)))) $ pass1 ! (init ! 32 refl (tt, (tt, (record { fits = g₇ .0 }, tt)))) $ pass0 ! $
-        assigns ! (addr ! (from ! (fld ! refl (hop ! (look-in ! 32 (sub ! 0 refl (whole !))) (stop !))))) (from ! (stop !)) (init ! 26 refl (tt, tt)) $ assigns ! (agg ! (and-then ! (load ! (from ! (stop !)) (look ! 26 refl)) (and-then ! (load ! (from ! (fld ! refl (stop !))) (look-in ! 32 (sub ! 1 refl (whole !)))) (no-more !)))) (from ! (stop !)) (init ! 24 refl (tt, (tt, (record { fits = g₇ .0 }, tt)))) $
         -- what the parameters own, and the tokens, one by one
         move ! (49 ∷ []) $ fsplit ! $ move ! (1 ∷ []) $ fsplit ! $ move ! (1 ∷ []) $ fsplit ! $ move ! (1 ∷ []) $ fsplit ! $ move ! (1 ∷ []) $ fsplit ! $ move ! (1 ∷ []) $ fsplit ! $ move ! (1 ∷ []) $ fsplit ! $ move ! (1 ∷ []) $ drop ! $ move ! (55 ∷ []) $ split ! $ move ! (1 ∷ []) $ split ! $ move ! (1 ∷ []) $ split ! $ move ! (1 ∷ []) $ split ! $ move ! (1 ∷ []) $ split ! $ move ! (1 ∷ []) $ split ! $ move ! (1 ∷ []) $ drop ! $
         -- `load`: the table is lent as `&`, and comes back
-        move ! (6 ∷ 0 ∷ []) $ loads 𝓤 H A W at-mem run (named 5) κ₅ q₅ x₇ g₇ (fmOf 𝓤 H (W .laws) 𝓣) known-load (λ ν δ. and-then ! (load ! (from ! (stop !)) (look ! 37 refl)) (no-more !)) (λ rs w e₁ t₁. land ! (from ! (stop !)) (init ! 44 refl t₁) $
+        assigns ! (addr ! (from ! (fld ! refl (hop ! (look-in ! 45 (sub ! 0 refl (whole !))) (stop !))))) (from ! (stop !)) (init ! 39 refl (tt, tt)) $ assigns ! (agg ! (and-then ! (load ! (from ! (stop !)) (look ! 39 refl)) (and-then ! (load ! (from ! (fld ! refl (stop !))) (look-in ! 45 (sub ! 1 refl (whole !)))) (no-more !)))) (from ! (stop !)) (init ! 37 refl (tt, (tt, (record { fits = g₇ .0 }, tt)))) $
+        move ! (6 ∷ 0 ∷ []) $ lends 𝓤 H A W (named 5) κ₅ q₅ x₇ g₇ (fmOf 𝓤 H (W .laws) 𝓣) (loading 𝓤 H A W at-mem run) known-load (λ ν δ. and-then ! (load ! (from ! (stop !)) (look ! 37 refl)) (no-more !)) (λ rs w e₁ is₁. land ! (from ! (stop !)) (init ! 44 refl (rows-typed 𝓤 H A W rs w is₁)) $
         -- `column_rows`: each `&mut` is passed on for good
         assigns ! (addr ! (from ! (fld ! refl (hop ! (look-in ! 54 (sub ! 0 refl (whole !))) (stop !))))) (from ! (stop !)) (init ! 36 refl (tt, tt)) $ assigns ! (agg ! (and-then ! (load ! (from ! (stop !)) (look ! 36 refl)) (and-then ! (load ! (from ! (fld ! refl (stop !))) (look-in ! 54 (sub ! 1 refl (whole !)))) (no-more !)))) (from ! (stop !)) (init ! 34 refl (tt, (tt, (record { fits = g₃ .0 }, tt)))) $
         assigns ! (addr ! (from ! (fld ! refl (hop ! (look-in ! 52 (sub ! 0 refl (whole !))) (stop !))))) (from ! (stop !)) (init ! 32 refl (tt, tt)) $ assigns ! (agg ! (and-then ! (load ! (from ! (stop !)) (look ! 32 refl)) (and-then ! (load ! (from ! (fld ! refl (stop !))) (look-in ! 52 (sub ! 1 refl (whole !)))) (no-more !)))) (from ! (stop !)) (init ! 30 refl (tt, (tt, (record { fits = g₄ .0 }, tt)))) $
@@ -153,18 +151,18 @@ module _ {M : Type 1} (𝓤 : URA M) (H : Heap 𝓤) (A : Atoms 𝓤) (W : Given
         assigns ! (of-opd ! (load ! (from ! (fld ! refl (stop !))) (look-in ! 46 (sub ! 1 refl (whole !))))) (from ! (stop !)) (init ! 20 refl (tt, record { fits = g₇ .0 })) $
         move ! (12 ∷ []) $ use1 W (‵ (ShrSlice (named 0) κ₀ u8 .own x₂ (v₂ ∷ [])) ⊛ ‵ (ShrSlice (named 0) κ₀ u8 .own x₂ (v₂ ∷ []))) (shr-slice-copy 𝓤 H A W (named 0) κ₀ u8 .twice x₂ (v₂ ∷ [])) $ split ! $ nothing ! $ nothing ! $ owned ! usize (Is usize) (uint-makes 𝓤 H A W w64) (length (x₇ .now)) (vint w64 (length (x₇ .now)) ∷ []) (refl, g₇ .0) $ fjoin ! $ move ! (4 ∷ 0 ∷ []) $ fjoin ! $ move ! (11 ∷ 0 ∷ []) $ fjoin ! $ move ! (11 ∷ 0 ∷ []) $ fjoin ! $ move ! (11 ∷ 0 ∷ []) $ fjoin ! $ move ! (11 ∷ 0 ∷ []) $ fjoin ! $ move ! (3 ∷ 0 ∷ []) $ fjoin ! $ move ! (10 ∷ 0 ∷ []) $ fjoin ! $ move ! (5 ∷ 1 ∷ []) $ join ! $ move ! (5 ∷ 0 ∷ []) $ join ! $ move ! (5 ∷ 0 ∷ []) $ join ! $ move ! (5 ∷ 0 ∷ []) $ join ! $ move ! (5 ∷ 0 ∷ []) $ join ! $ move ! (0 ∷ 1 ∷ []) $ join ! $ use1 W (raw (Work 𝓤 H A at-mem run .pre (to-work rs w))) (goes-work rs w) $
         calls-at ! (fmOf 𝓤 H (W .laws) 𝓣) (Work 𝓤 H A at-mem run) known-work (to-work rs w) (and-then ! (load ! (from ! (stop !)) (look ! 48 refl)) (and-then ! (load ! (from ! (stop !)) (look ! 46 refl)) (and-then ! (load ! (from ! (stop !)) (look ! 24 refl)) (and-then ! (load ! (from ! (stop !)) (look ! 20 refl)) (and-then ! (load ! (from ! (stop !)) (look ! 16 refl)) (and-then ! (load ! (from ! (stop !)) (look ! 12 refl)) (and-then ! (load ! (from ! (stop !)) (look ! 34 refl)) (and-then ! (load ! (from ! (stop !)) (look ! 10 refl)) (no-more !))))))))) (λ w′.
-        use1 W (later (some (λ (r : Finished). ((‵ (flft κ₀ q₀) ⊛ (‵ (flft κ₁ q₁) ⊛ (‵ (flft κ₂ q₂) ⊛ (‵ (flft κ₃ q₃) ⊛ (‵ (flft κ₄ q₄) ⊛ (‵ ftrue)))))) ⊛ ‵ (Finished.the-row .own r (w′ ∷ []))) ⊛ raw (ensured 𝓤 H A rows-f.ended (rows-f.clauses 𝓤 H A at-mem run) (κ₀, (κ₁, (κ₂, (κ₃, (κ₄, tt))))) (x₁, (x₂, (x₃, (x₄, (x₅, (x₆, (rs, (length (x₇ .now), tt)))))))) tt r)))) (id⊢ 𝓤 _) $ await ! tt $ pick ! (λ r.
-        split ! $ move ! (1 ∷ []) $ use1 W (some (λ (zs : Unit {0} × (Unit {0} × (List ℕ × (List ℕ × (List ℕ × (List ℕ × (Unit {0} × (Unit {0} × (Unit {0}))))))))). ‵ (lasts rows-f.ended (κ₀, (κ₁, (κ₂, (κ₃, (κ₄, tt))))) (x₁, (x₂, (x₃, (x₄, (x₅, (x₆, (rs, (length (x₇ .now), tt)))))))) zs) ⊛ raw (fact 𝓤 (Worked (reached (length (x₇ .now)) (x₁ .k)) (offeredParity column x₁ (x₂ .now)) (record { media = x₃ .now; timestamps = x₄ .now; marks = x₅ .now; parity = x₆ .now; records = rs }) (record { media = zs .1 .1 .0; timestamps = zs .1 .1 .1 .0; marks = zs .1 .1 .1 .1 .0; parity = zs .1 .1 .1 .1 .1 .0; records = r .rows }) r)))) (id⊢ 𝓤 _) $ pick ! (λ zs.
+        use1 W (later (some (λ (r : Finished). ((‵ (flft κ₀ q₀) ⊛ (‵ (flft κ₁ q₁) ⊛ (‵ (flft κ₂ q₂) ⊛ (‵ (flft κ₃ q₃) ⊛ (‵ (flft κ₄ q₄) ⊛ (‵ ftrue)))))) ⊛ ‵ (Finished.the-row .own r (w′ ∷ []))) ⊛ raw (ensured 𝓤 H A work-f.ended (work-f.clauses 𝓤 H A at-mem run) (κ₀, (κ₁, (κ₂, (κ₃, (κ₄, tt))))) (x₁, (x₂, (x₃, (x₄, (x₅, (x₆, (rs, (length (x₇ .now), tt)))))))) tt r)))) (id⊢ 𝓤 _) $ await ! tt $ pick ! (λ r.
+        split ! $ move ! (1 ∷ []) $ use1 W (some (λ (zs : Unit {0} × (Unit {0} × (List ℕ × (List ℕ × (List ℕ × (List ℕ × (Unit {0} × (Unit {0} × (Unit {0}))))))))). ‵ (lasts work-f.ended (κ₀, (κ₁, (κ₂, (κ₃, (κ₄, tt))))) (x₁, (x₂, (x₃, (x₄, (x₅, (x₆, (rs, (length (x₇ .now), tt)))))))) zs) ⊛ raw (fact 𝓤 (Worked (reached (length (x₇ .now)) (x₁ .k)) (offeredParity column x₁ (x₂ .now)) (record { media = x₃ .now; timestamps = x₄ .now; marks = x₅ .now; parity = x₆ .now; records = rs }) (record { media = zs .1 .1 .0; timestamps = zs .1 .1 .1 .0; marks = zs .1 .1 .1 .1 .0; parity = zs .1 .1 .1 .1 .1 .0; records = r .rows }) r)))) (id⊢ 𝓤 _) $ pick ! (λ zs.
         split ! $ move ! (1 ∷ []) $ heard ! (Worked (reached (length (x₇ .now)) (x₁ .k)) (offeredParity column x₁ (x₂ .now)) (record { media = x₃ .now; timestamps = x₄ .now; marks = x₅ .now; parity = x₆ .now; records = rs }) (record { media = zs .1 .1 .0; timestamps = zs .1 .1 .1 .0; marks = zs .1 .1 .1 .1 .0; parity = zs .1 .1 .1 .1 .1 .0; records = r .rows }) r) (λ e₂. fsplit ! $ drop ! $ move ! (0 ∷ []) $ fsplit ! $ drop ! $ move ! (0 ∷ []) $ fsplit ! $ fsplit ! $ move ! (1 ∷ []) $ feqL ! (λ l₃. move ! (1 ∷ []) $ fsplit ! $ fsplit ! $ move ! (1 ∷ []) $ feqL ! (λ l₄. move ! (1 ∷ []) $ fsplit ! $ fsplit ! $ move ! (1 ∷ []) $ feqL ! (λ l₅. move ! (1 ∷ []) $ fsplit ! $ fsplit ! $ move ! (1 ∷ []) $ feqL ! (λ l₆. move ! (1 ∷ []) $ fsplit ! $ drop ! $ move ! (0 ∷ []) $ fsplit ! $ drop ! $ move ! (0 ∷ []) $ drop ! $
         move ! (4 ∷ []) $ split ! $ move ! (1 ∷ []) $ peeks ! Finished.the-row (Is Finished.the-row) (shows 𝓤 H A Finished.the-row) r (w′ ∷ []) (λ p₂. land ! (from ! (stop !)) (init ! 37 refl (LL.lawful Finished.the-type Finished′.the-laws 𝓤 H A W .typed r _ p₂ .0)) $ drop ! $ rewrite ! 36 (λ (u : Val). ‵ (fat fullShare Finished′.mir l₉ 0 u)) (ap only (LL.tells Finished.the-type Finished′.the-laws r _ p₂)) refl $
         -- `save`: the table is passed on for good
         assigns ! (addr ! (from ! (fld ! refl (hop ! (look-in ! 40 (sub ! 0 refl (whole !))) (stop !))))) (from ! (stop !)) (init ! 10 refl (tt, tt)) $ assigns ! (agg ! (and-then ! (load ! (from ! (stop !)) (look ! 10 refl)) (and-then ! (load ! (from ! (fld ! refl (stop !))) (look-in ! 40 (sub ! 1 refl (whole !)))) (no-more !)))) (from ! (stop !)) (init ! 8 refl (tt, (tt, (record { fits = g₇ .0 }, tt)))) $
-        move ! (6 ∷ 7 ∷ []) $ saves 𝓤 H A W at-mem run (named 5) κ₅ q₅ x₇ g₇ (fmOf 𝓤 H (W .laws) 𝓣) (r .n) (r .rows) (rows-of r) (LL.owed Finished.the-type Finished′.the-laws r _ p₂ .1 .0 .1) (rows-is (r .rows) _ (LL.owed Finished.the-type Finished′.the-laws r _ p₂ .1 .1 .0)) known-save
+        move ! (6 ∷ 7 ∷ []) $ saves 𝓤 H A W (named 5) κ₅ q₅ x₇ g₇ (fmOf 𝓤 H (W .laws) 𝓣) at-mem run (r .n) (r .rows) (rows-of r) (LL.owed Finished.the-type Finished′.the-laws r _ p₂ .1 .0 .1) (rows-is (r .rows) _ (LL.owed Finished.the-type Finished′.the-laws r _ p₂ .1 .1 .0)) known-save
         (and-then ! (load ! (from ! (stop !)) (look ! 7 refl)) (and-then ! (load ! (from ! (fld ! refl (stop !))) (look-in ! 35 (sub ! 1 refl (whole !)))) (and-then ! (load ! (from ! (fld ! refl (stop !))) (look-in ! 35 (sub ! 2 refl (whole !)))) (no-more !)))) (λ ts u e₃ l₇ t₂. land ! (from ! (stop !)) (init ! 12 refl t₂) $
         assigns ! (of-opd ! (load ! (from ! (fld ! refl (stop !))) (look-in ! 36 (sub ! 0 refl (whole !))))) (from ! (stop !)) (init ! 54 refl (LL.lawful Reply.the-type Reply′.the-laws 𝓤 H A W .typed (r .reply) _ (LL.owed Finished.the-type Finished′.the-laws r _ p₂ .0) .0)) $
         returns ! (look ! 54 refl) $ forget ! 8 refl $ forget ! 10 refl $ forget ! 12 refl $ forget ! 14 refl $ forget ! 16 refl $ forget ! 18 refl $ forget ! 20 refl $ forget ! 22 refl $ forget ! 24 refl $ forget ! 26 refl $ forget ! 28 refl $ forget ! 30 refl $ forget ! 32 refl $ forget ! 34 refl $ forget ! 36 refl $ forget ! 38 refl $ forget ! 40 refl $ forget ! 42 refl $ forget ! 44 refl $ forget ! 46 refl $ forget ! 48 refl $ forget ! 50 refl $ forget ! 52 refl $ forget ! 54 refl $
         move ! (54 ∷ 55 ∷ []) $ free1 ! $ move ! (52 ∷ 53 ∷ []) $ free1 ! $ move ! (50 ∷ 51 ∷ []) $ free1 ! $ move ! (48 ∷ 49 ∷ []) $ free1 ! $ move ! (46 ∷ 47 ∷ []) $ free1 ! $ move ! (44 ∷ 45 ∷ []) $ free1 ! $ move ! (42 ∷ 43 ∷ []) $ free1 ! $ move ! (40 ∷ 41 ∷ []) $ free1 ! $ move ! (38 ∷ 39 ∷ []) $ free1 ! $ move ! (36 ∷ 37 ∷ []) $ free1 ! $ move ! (34 ∷ 35 ∷ []) $ free1 ! $ move ! (32 ∷ 33 ∷ []) $ free1 ! $ move ! (30 ∷ 31 ∷ []) $ free1 ! $ move ! (28 ∷ 29 ∷ []) $ free1 ! $ move ! (26 ∷ 27 ∷ []) $ free1 ! $ move ! (24 ∷ 25 ∷ []) $ free1 ! $ move ! (22 ∷ 23 ∷ []) $ free1 ! $ move ! (20 ∷ 21 ∷ []) $ free1 ! $ move ! (18 ∷ 19 ∷ []) $ free1 ! $ move ! (16 ∷ 17 ∷ []) $ free1 ! $ move ! (14 ∷ 15 ∷ []) $ free1 ! $ move ! (12 ∷ 13 ∷ []) $ free1 ! $ move ! (10 ∷ 11 ∷ []) $ free1 ! $ move ! (8 ∷ 9 ∷ []) $ free1 ! $ free0 ! $
-        keep ! (1 ∷ 0 ∷ 2 ∷ 3 ∷ 4 ∷ 5 ∷ 6 ∷ 7 ∷ []) $ by ! (exits r w′ p₂ (zs .1 .1 .0) (zs .1 .1 .1 .0) (zs .1 .1 .1 .1 .0) (zs .1 .1 .1 .1 .1 .0) ts l₃ l₄ l₅ l₆ l₇ (whole-said rs r (zs .1 .1 .0) (zs .1 .1 .1 .0) (zs .1 .1 .1 .1 .0) (zs .1 .1 .1 .1 .1 .0) ts e₁ e₂ e₃)))))))))))))))))))))))))))))))))))))
+        keep ! (1 ∷ 0 ∷ 2 ∷ 3 ∷ 4 ∷ 5 ∷ 6 ∷ 7 ∷ []) $ by ! (exits (r .reply) _ (LL.owed Finished.the-type Finished′.the-laws r _ p₂ .0) (zs .1 .1 .0) (zs .1 .1 .1 .0) (zs .1 .1 .1 .1 .0) (zs .1 .1 .1 .1 .1 .0) ts l₃ l₄ l₅ l₆ l₇ (whole-said rs r (zs .1 .1 .0) (zs .1 .1 .1 .0) (zs .1 .1 .1 .1 .0) (zs .1 .1 .1 .1 .1 .0) ts e₁ e₂ e₃)))))))))))))))))))))))))))))))))))))
 
 module _ {M : Type 1} (𝓤 : URA M) (H : Heap 𝓤) (A : Atoms 𝓤) (W : Given 𝓤 H A) (at-mem : Memory → SProp 𝓤) (run : Routine → Fun 𝓤) (𝓣 : Tables 𝓤 H) (known-load : Triple 𝓤 (𝓣 .C #records·load) (Load 𝓤 H A at-mem run)) (known-work : Triple 𝓤 (𝓣 .C #tabled·column-rows) (Work 𝓤 H A at-mem run)) (known-save : Triple 𝓤 (𝓣 .C #records·save) (Save 𝓤 H A at-mem run)) where
   walks : Walks 𝓤 H A f.ended stayed (WpFn 𝓤 H (𝓣 .C) (𝓣 .Λ) code.function) (f.clauses 𝓤 H A at-mem run)
@@ -184,5 +182,5 @@ cgv-column-spec 𝓤 H 𝓜 𝓖 𝓡 =
     (tables 𝓤 H 𝓜 𝓡 code.env .C) (tables 𝓤 H 𝓜 𝓡 code.env .Λ) #congaveil·cgv-column code.function (code.unfolded 𝓤 H 𝓜 𝓡)
     (meets 𝓤 H (𝓖 .A) (givenOf 𝓤 H 𝓜 𝓖) (𝓜 .mem) (𝓡 .run) (tablesOf 𝓤 H 𝓜 (tables 𝓤 H 𝓜 𝓡 code.env))
     (cited 𝓤 H (Load 𝓤 H (𝓖 .A) (𝓜 .mem) (𝓡 .run)) 𝓜 𝓡 code.env #records·load load-def.routine code.calls-records·load (load-thm.met 𝓤 H 𝓜 𝓖 𝓡))
-    (cited 𝓤 H (Work 𝓤 H (𝓖 .A) (𝓜 .mem) (𝓡 .run)) 𝓜 𝓡 code.env #tabled·column-rows rows-def.routine code.calls-tabled·column-rows (rows-thm.met 𝓤 H 𝓜 𝓖 𝓡))
+    (cited 𝓤 H (Work 𝓤 H (𝓖 .A) (𝓜 .mem) (𝓡 .run)) 𝓜 𝓡 code.env #tabled·column-rows work-def.routine code.calls-tabled·column-rows (work-thm.met 𝓤 H 𝓜 𝓖 𝓡))
     (cited 𝓤 H (Save 𝓤 H (𝓖 .A) (𝓜 .mem) (𝓡 .run)) 𝓜 𝓡 code.env #records·save save-def.routine code.calls-records·save (save-thm.met 𝓤 H 𝓜 𝓖 𝓡)))
