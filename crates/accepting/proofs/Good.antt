@@ -25,7 +25,7 @@ use Rattle.settle.specs.Scan.{Kept, Records, unmarked, scene, stored}
 use Rattle.settle.specs.Settle.{settle}
 use Rattle.settle.proofs.Release.{kept-rebuilt}
 use Rattle.rebuilding.proofs.Members.{kept-below-group}
-use Rattle.settle.proofs.Rounds.{head-below}
+use Rattle.rounds.proofs.Rounds.{head-below}
 use Rattle.holding.proofs.Held.{kept-held, rest-all}
 use Rattle.holding.proofs.Free.{free-below}
 use Rattle.calls.specs.Call.{Outcome, standingTests, mediaPlaceTests, mediaOfferTests, parityPlaceTests, parityOfferTests, refused, settled, start, offeredMedia, offeredParity}

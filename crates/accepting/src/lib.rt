@@ -44,7 +44,7 @@ pub fn accept_media(
     timestamps[i] = rtp::timestamp(datagram);
     marks[i] = 1;
     let v = settle::recounted(w, w.present + 1, w.in_use);
-    let r = settle::settle(
+    let r = rounds::settle(
         v,
         0,
         media,
@@ -80,7 +80,7 @@ fn accept_spent(
     requires { ⌜ Standing w (stored (now media) (now timestamps) (now marks) (now parity) (now streams) (now snbases) (now recoveries) (now uses)) 0 0 ⌝ }
     ensures { λ r. ⌜ record { answer = r .answer; window = r .window; store = (stored (now (media .exit)) (now (timestamps .exit)) (now (marks .exit)) (now (parity .exit)) (now (streams .exit)) (now (snbases .exit)) (now (recoveries .exit)) (now (uses .exit))) } ≡ settled (start w (stored (now (media .entry)) (now (timestamps .entry)) (now (marks .entry)) (now (parity .entry)) (now (streams .entry)) (now (snbases .entry)) (now (recoveries .entry)) (now (uses .entry)))) ⌝ }
 {
-    let r = settle::settle(
+    let r = rounds::settle(
         w,
         0,
         media,
@@ -133,7 +133,7 @@ fn accept_last(
         marks,
     );
     let v = settle::recounted(w, w.present + 1, w.in_use);
-    let r = settle::settle(
+    let r = rounds::settle(
         v,
         1,
         media,
@@ -183,7 +183,7 @@ fn accept_waiting(
         recoveries,
         uses,
     );
-    let r = settle::settle(
+    let r = rounds::settle(
         v,
         0,
         media,

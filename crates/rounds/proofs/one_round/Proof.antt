@@ -1,17 +1,17 @@
--- `settle::one_round` meets its contract: each return is a way through `round`. Assumes nothing.
+-- `rounds::one_round` meets its contract: each return is a way through `round`. Assumes nothing.
 use mathlib.Core.Path.{ap, _∙_}
 use Prim.Native.Nat.{_-_, _+_}
 use native.Mathlib.Omega.{arith}
 use mathlib.Core.List.{[]}
 use native.Mathlib.Nat.{add-zero}
 use Rattle.settle.specs.Scan.{stored, scene}
 use Rattle.settle.specs.Settle.{releaseAll}
 use Rattle.rebuilding.proofs.Members.{row-ends}
 use Rattle.settle.proofs.Release.{asked-all, long-uses}
 use Rattle.settle.proofs.Counts.{counted-rebuilt, counted-all}
-use Rattle.settle.proofs.Rounds.{round-none, round-some, next-none, next-some, next-inside, next-missing, rebuilt-by}
-use Rattle.settle.proofs.one_round.Statement.{statement}
-use Rattle.settle.proofs.one_round.Tie as tie
+use Rattle.rounds.proofs.Rounds.{round-none, round-some, next-none, next-some, next-inside, next-missing, rebuilt-by}
+use Rattle.rounds.proofs.one_round.Statement.{statement}
+use Rattle.rounds.proofs.one_round.Tie as tie
 
 next-ready-requires : tie.Need-next-ready-requires
 next-ready-requires c κs = omega arith

@@ -1,12 +1,12 @@
--- `settle::settle` meets its contract: with no record in use nothing is to be done; else the rounds, over counts that were made. Assumes nothing.
+-- `rounds::settle` meets its contract: with no record in use nothing is to be done; else the rounds, over counts that were made. Assumes nothing.
 use Prim.Native.Nat.{_-_}
 use native.Mathlib.Omega.{arith}
 use Rattle.settle.specs.Scan.{stored}
 use Rattle.settle.specs.Settle.{settle}
-use Rattle.settle.proofs.Settling.{going-start, going-done}
+use Rattle.rounds.proofs.Settling.{going-start, going-done}
 use borrow.Author.Needs.{needs}
-use Rattle.settle.proofs.settle.Statement.{statement}
-use Rattle.settle.proofs.settle.Tie as tie
+use Rattle.rounds.proofs.settle.Statement.{statement}
+use Rattle.rounds.proofs.settle.Tie as tie
 
 returns : tie.Need-returns
 unfolding settle

@@ -1,15 +1,15 @@
--- `settle::all_rounds` meets its contract: what is left to do comes to what was to be done. Assumes nothing.
+-- `rounds::all_rounds` meets its contract: what is left to do comes to what was to be done. Assumes nothing.
 use mathlib.Core.Path.{_≡_, refl, sym, _∙_}
 use Prim.Native.Nat.{_-_}
 use native.Mathlib.Omega.{arith}
 use lib.ListN.{length}
 use Rattle.settle.specs.Scan.{stored}
 use Rattle.settle.specs.Counts.{Counted}
 use Rattle.settle.specs.Settle.{settle}
-use Rattle.settle.proofs.Rounds.{next-same}
-use Rattle.settle.proofs.Settling.{Going, going-start, going-asks, going-on, going-rest, going-done}
-use Rattle.settle.proofs.all_rounds.Statement.{statement}
-use Rattle.settle.proofs.all_rounds.Tie as tie
+use Rattle.rounds.proofs.Rounds.{next-same}
+use Rattle.rounds.proofs.Settling.{Going, going-start, going-asks, going-on, going-rest, going-done}
+use Rattle.rounds.proofs.all_rounds.Statement.{statement}
+use Rattle.rounds.proofs.all_rounds.Tie as tie
 
 abbrev Inv-loop : tie.InvT-loop
 Inv-loop rebuilt media₀ timestamps₀ marks₀ parity₀ streams₀ snbases₀ recoveries₀ uses₀ counts₀ v₀ done₀ left₀ media timestamps marks parity streams snbases recoveries uses counts v done left = Going v₀ (stored media₀ timestamps₀ marks₀ parity₀ streams₀ snbases₀ recoveries₀ uses₀) done₀ v (stored media timestamps marks parity streams snbases recoveries uses) done left × Counted (v .k) v marks streams snbases uses counts × (length media ≡ length media₀) × (length timestamps ≡ length timestamps₀) × (length marks ≡ length marks₀) × (length parity ≡ length parity₀) × (length streams ≡ length streams₀) × (length snbases ≡ length snbases₀) × (length recoveries ≡ length recoveries₀) × (length uses ≡ length uses₀) × (length counts ≡ length counts₀)
