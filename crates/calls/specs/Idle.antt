@@ -32,7 +32,7 @@ use Rattle.calls.specs.Standing.{standing-good}
 abbrev pub Free : List ℕ → Type 0
 Free uses = (r : ℕ) → getD uses r 0 ≡ 0
 
--- the records of an outcome's store are these
+-- an outcome with these records in its store
 abbrev pub withRecords : (streams snbases recoveries uses : List ℕ) → Outcome → Outcome
 withRecords streams snbases recoveries uses o =
     record {

@@ -105,7 +105,7 @@ waits-good w s r h =
     (ap not (false-any (λ q. inUse s q && sameGroup s q r) r (λ q l. apart (inUse s q) (sameGroup s q r) (g .is-first q l)))))
     (lt-ltb 1 (length (missing s (groupAt w s r))) (g .lacks-two)))
 
--- no record of which none is in use is in use
+-- a count of 0 says that no record is in use
 pub none-in-use : (s : Store) (n : ℕ) → count (inUse s) (upTo n) ≡ 0 → (r : ℕ) → r < n → inUse s r ≡ false
 none-in-use s n e = any-false (inUse s) n (any-count (inUse s) (upTo n) ∙ ap (ltb 0) e)
 
