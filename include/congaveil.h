@@ -205,7 +205,8 @@ cgv_receiver_write_row(const struct cgv_receiver *r, uint16_t snbase, uint16_t s
 static inline int cgv_receiver_has(const struct cgv_receiver *r, uint16_t number)
 {
     size_t position = (uint16_t)(number - r->window.base);
-    return position < r->window.n && r->store.marks[position] == 1;
+    return position < r->window.n && position < r->store.marks_len &&
+           r->store.marks[position] == 1;
 }
 
 /* A number in words. */
