@@ -1,26 +1,29 @@
 -- The calls: from the window value, the datagram and the lent store to answer, next window value and next store.
-use mathlib.Core.Bool.{Bool, true, false, cond, not, _&&_, _||_}
+use mathlib.Core.Bool.{Bool, cond, not, _&&_, _||_}
 use mathlib.Core.List.{List, [], _∷_, _++_, map}
 use Prim.Native.Nat.{ℕ, _+_, _*_}
-use lib.Dec.{eqb, ltb}
-use lib.ListN.{length, drop}
+use lib.Dec.{eqb, leb, ltb}
+use lib.ListN.{length, drop, replicate}
 pub use Rattle.xor.specs.Same.{same}
 use Rattle.answer.specs.declared.Answer.{Answer}
 use Rattle.answer.specs.declared.Answer.the-variants.{Done, Refused}
 use Rattle.answer.specs.First.{first}
 use Rattle.sequence.specs.Lists.{upTo, any}
-use Rattle.rtp.specs.Rtp.{rtpHeaderSize, sequenceNumber, timestamp}
+use Rattle.rtp.specs.Rtp.{rtpHeaderSize, sequenceNumber}
 use Rattle.rtp.specs.Fec.{parityHeaderSize, column, row, snbase}
 use Rattle.rtp.specs.Faults.{mediaTests, parityTests, noRow}
+use Rattle.window.specs.declared.Record.{Record}
 use Rattle.window.specs.declared.Window.{Window}
-use Rattle.window.specs.Limits.{setUpTests}
-use Rattle.window.specs.Store.{Store, shortStore, payloadAt, timestampAt, parityAt, streamAt, snbaseAt, recoveryAt, zeroed}
-use Rattle.window.specs.Group.{position, group, inside, lost, missing}
+use Rattle.window.specs.Record.{blank}
+use Rattle.window.specs.Limits.{leastMissing, setUpTests}
+use Rattle.window.specs.Store.{Store, shortStore, payloadAt, timestampAt, recordAt}
+use Rattle.window.specs.Group.{position, group, inside, isMissing, missing}
 use Rattle.window.specs.Order.{inUse, disorder}
 use Rattle.calls.specs.Datagram.{mediaPacket, Outer, parityPacket}
-use Rattle.settle.specs.State.{State}
-use Rattle.settle.specs.Settle.{settle}
-use Rattle.calls.specs.Accept.{mediaPayload, recoveryOf, acceptMedia, acceptParity}
+use Rattle.calls.specs.Content.{Content, recoveryAt}
+use Rattle.calls.specs.State.{State, scene}
+use Rattle.calls.specs.Settle.{settle}
+use Rattle.calls.specs.Accept.{contentOf, recoveryOf, acceptMedia, acceptParity}
 
 -- what a call gives back, and leaves in the lent store
 pub record Outcome : Type 0 where
@@ -40,6 +43,14 @@ pub record Written : Type 0 where
 abbrev pub noWindow : Window
 noWindow = record { base = 0; ssrc = 0; l = 0; d = 0; p = 0; n = 0; k = 0; present = 0; «in_use» = 0 }
 
+-- the first n elements of a part set to zero, the rest as it was
+abbrev pub zeroed : ℕ → List ℕ → List ℕ
+zeroed n l = replicate n 0 ++ drop n l
+
+-- the first k records of a table set free, the rest as it was
+abbrev pub wiped : ℕ → List Record → List Record
+wiped k t = replicate k blank ++ drop k t
+
 -- all that the window needs is set to zero: every position missing, every record free
 abbrev pub cleared : Window → Store → Store
 cleared w s =
@@ -48,10 +59,7 @@ cleared w s =
       timestamps = zeroed (w .n) (s .timestamps);
       marks = zeroed (w .n) (s .marks);
       parity = zeroed (w .k * w .p) (s .parity);
-      streams = zeroed (w .k) (s .streams);
-      snbases = zeroed (w .k) (s .snbases);
-      recoveries = zeroed (w .k) (s .recoveries);
-      uses = zeroed (w .k) (s .uses);
+      records = wiped (w .k) (s .records);
     }
 
 -- the window value that a card asks for: the counts are 0
@@ -74,12 +82,20 @@ opened w s =
 abbrev pub standingTests : Window → Store → (room need : ℕ) → List (ℕ × Bool)
 standingTests w s room need = setUpTests w ++ ((4, shortStore w s || ltb room need) ∷ (5, disorder w s) ∷ [])
 
+-- two contents are equal
+abbrev pub sameContent : Content → Content → Bool
+sameContent a b = eqb (a .timestamp) (b .timestamp) && same (a .payload) (b .payload)
+
+-- the content kept at a position
+abbrev pub contentAt : Window → Store → ℕ → Content
+contentAt w s i = record { timestamp = timestampAt s i; payload = payloadAt w s i }
+
 -- 13 to 15 for a media datagram: its number lies outside; it is held, the same; it is held, with a difference
 abbrev pub mediaPlaceTests : Window → List ℕ → Store → List (ℕ × Bool)
 mediaPlaceTests w g s =
     (13, not (ltb (position w (sequenceNumber g)) (w .n)))
-    ∷ (14, not (lost s (position w (sequenceNumber g))) && (eqb (timestampAt s (position w (sequenceNumber g))) (timestamp g) && same (payloadAt w s (position w (sequenceNumber g))) (mediaPayload g)))
-    ∷ (15, not (lost s (position w (sequenceNumber g))))
+    ∷ (14, not (isMissing (s .marks) (position w (sequenceNumber g))) && sameContent (contentAt w s (position w (sequenceNumber g))) (contentOf g))
+    ∷ (15, not (isMissing (s .marks) (position w (sequenceNumber g))))
     ∷ []
 
 -- the tests of a media offer: 1 to 9 and 13 to 15
@@ -87,12 +103,12 @@ abbrev pub mediaOfferTests : Window → List ℕ → Store → List (ℕ × Bool
 mediaOfferTests w g s = standingTests w s 0 0 ++ mediaTests (w .p) g ++ mediaPlaceTests w g s
 
 -- a record in use holds this group
-abbrev pub holds : Store → (stream start : ℕ) → ℕ → Bool
-holds s stream start r = inUse s r && (eqb (streamAt s r) stream && eqb (snbaseAt s r) start)
+abbrev pub holds : Store → (stream snbase : ℕ) → ℕ → Bool
+holds s stream snbase r = inUse s r && (eqb (recordAt s r .stream) stream && eqb (recordAt s r .snbase) snbase)
 
--- and holds it with the same timestamp recovery and payload recovery
+-- and holds it with the same recovery
 abbrev pub holdsSame : Window → Store → (stream : ℕ) → List ℕ → ℕ → Bool
-holdsSame w s stream g r = holds s stream (snbase g) r && (eqb (recoveryAt s r) (recoveryOf g .stamps) && same (parityAt w s r) (recoveryOf g .payload))
+holdsSame w s stream g r = holds s stream (snbase g) r && sameContent (recoveryAt w s r) (recoveryOf g)
 
 -- 13 to 16 for a parity datagram: a member lies outside; it is in hand, the same; it is in hand, with a difference;
 -- two or more are missing and every record is in use
@@ -101,7 +117,7 @@ parityPlaceTests w stream g s =
     (13, not (inside w stream (snbase g)))
     ∷ (14, any (holdsSame w s stream g) (upTo (w .k)))
     ∷ (15, any (holds s stream (snbase g)) (upTo (w .k)))
-    ∷ (16, ltb 1 (length (missing s (group w stream (snbase g)))) && not (ltb (w .«in_use») (w .k)))
+    ∷ (16, leb leastMissing (length (missing (s .marks) (group w stream (snbase g)))) && not (ltb (w .«in_use») (w .k)))
     ∷ []
 
 -- the tests of a parity offer on the port of a stream: 1 to 16
@@ -117,18 +133,18 @@ abbrev pub settled : State → Outcome
 settled x = record { answer = Done (settle x .rebuilt); window = settle x .window; store = settle x .store }
 
 -- a call begins: nothing rebuilt yet
-abbrev pub start : Window → Store → State
-start w s = record { window = w; store = s; rebuilt = 0 }
+abbrev pub begun : Window → Store → State
+begun w s = scene w s 0
 
 -- a media offer: accepted and settled, or refused
 unfoldable pub offeredMedia : Window → List ℕ → Store → Outcome
 offeredMedia w g s =
-    cond (eqb (first (mediaOfferTests w g s)) 0) (settled (acceptMedia g (start w s))) (refused (first (mediaOfferTests w g s)) w s)
+    cond (eqb (first (mediaOfferTests w g s)) 0) (settled (acceptMedia g (begun w s))) (refused (first (mediaOfferTests w g s)) w s)
 
 -- a parity offer on the port of a stream: accepted and settled, or refused
 unfoldable pub offeredParity : (stream : ℕ) → Window → List ℕ → Store → Outcome
 offeredParity stream w g s =
-    cond (eqb (first (parityOfferTests w stream g s)) 0) (settled (acceptParity stream g (start w s)))
+    cond (eqb (first (parityOfferTests w stream g s)) 0) (settled (acceptParity stream g (begun w s)))
     (refused (first (parityOfferTests w stream g s)) w s)
 
 -- on the column port
@@ -149,7 +165,7 @@ over datagram out = datagram ++ drop (length datagram) out
 abbrev pub readTests : Window → (number : ℕ) → Store → (out : List ℕ) → List (ℕ × Bool)
 readTests w number s out =
     standingTests w s (length out) (rtpHeaderSize + w .p)
-    ++ ((13, not (ltb (position w number) (w .n))) ∷ (17, lost s (position w number)) ∷ [])
+    ++ ((13, not (ltb (position w number) (w .n))) ∷ (17, isMissing (s .marks) (position w number)) ∷ [])
 
 -- reading out a number: its datagram, or the refusal; store and window value stay (01, "Taking a packet in")
 unfoldable pub readOut : Window → (number : ℕ) → Store → (out : List ℕ) → Written
@@ -163,30 +179,30 @@ readOut w number s out =
     (record { answer = Refused (first (readTests w number s out)); window = w; out = out })
 
 -- the tests of writing parity: 1 to 5, 12 (a row where rows are not permitted), 13 (a member lies outside) and 17 (a member is missing)
-abbrev pub writeTests : Window → (stream start : ℕ) → Store → (out : List ℕ) → List (ℕ × Bool)
-writeTests w stream start s out =
+abbrev pub writeTests : Window → (stream snbase : ℕ) → Store → (out : List ℕ) → List (ℕ × Bool)
+writeTests w stream snbase s out =
     standingTests w s (length out) (parityHeaderSize + w .p)
     ++ ((12, noRow stream (w .l))
-    ∷ (13, not (inside w stream start))
-    ∷ (17, any (lost s) (group w stream start))
+    ∷ (13, not (inside w stream snbase))
+    ∷ (17, any (isMissing (s .marks)) (group w stream snbase))
     ∷ [])
 
 -- the parity packet of a group that is present
-abbrev pub parityOf : Window → Outer → (stream start : ℕ) → Store → List ℕ
-parityOf w o stream start s =
-    parityPacket o stream (w .l) (w .d) (w .p) start (map (timestampAt s) (group w stream start)) (map (payloadAt w s) (group w stream start))
+abbrev pub parityOf : Window → Outer → (stream snbase : ℕ) → Store → List ℕ
+parityOf w o stream snbase s =
+    parityPacket o stream (w .l) (w .d) (w .p) snbase (map (timestampAt s) (group w stream snbase)) (map (payloadAt w s) (group w stream snbase))
 
 -- writing the parity of a group: its datagram, or the refusal; store and window value stay (01, "Taking a packet in")
-unfoldable pub wroteParity : (stream : ℕ) → Window → (start : ℕ) → Outer → Store → (out : List ℕ) → Written
-wroteParity stream w start o s out =
-    cond (eqb (first (writeTests w stream start s out)) 0)
-    (record { answer = Done (parityHeaderSize + w .p); window = w; out = over (parityOf w o stream start s) out })
-    (record { answer = Refused (first (writeTests w stream start s out)); window = w; out = out })
+unfoldable pub wroteParity : (stream : ℕ) → Window → (snbase : ℕ) → Outer → Store → (out : List ℕ) → Written
+wroteParity stream w snbase o s out =
+    cond (eqb (first (writeTests w stream snbase s out)) 0)
+    (record { answer = Done (parityHeaderSize + w .p); window = w; out = over (parityOf w o stream snbase s) out })
+    (record { answer = Refused (first (writeTests w stream snbase s out)); window = w; out = out })
 
 -- of a column
-abbrev pub wroteColumn : Window → (start : ℕ) → Outer → Store → (out : List ℕ) → Written
+abbrev pub wroteColumn : Window → (snbase : ℕ) → Outer → Store → (out : List ℕ) → Written
 wroteColumn = wroteParity column
 
 -- of a row
-abbrev pub wroteRow : Window → (start : ℕ) → Outer → Store → (out : List ℕ) → Written
+abbrev pub wroteRow : Window → (snbase : ℕ) → Outer → Store → (out : List ℕ) → Written
 wroteRow = wroteParity row

@@ -7,8 +7,8 @@ use Rattle.rtp.specs.Rtp.{rtpHeader, mediaType, parityType}
 use Rattle.rtp.specs.Fec.{fecHeader}
 
 -- a media packet
-abbrev pub mediaPacket : (number stamp source : ℕ) (payload : List ℕ) → List ℕ
-mediaPacket number stamp source payload = rtpHeader mediaType number stamp source ++ payload
+abbrev pub mediaPacket : (number timestamp ssrc : ℕ) (payload : List ℕ) → List ℕ
+mediaPacket number timestamp ssrc payload = rtpHeader mediaType number timestamp ssrc ++ payload
 
 -- what a parity packet takes from the caller
 pub record Outer : Type 0 where
@@ -16,9 +16,9 @@ pub record Outer : Type 0 where
   pub timestamp : ℕ
   pub ssrc : ℕ
 
--- the parity packet of the group of a stream that starts at a number, where the members' timestamps and payloads are given
-abbrev pub parityPacket : Outer → (stream l d p start : ℕ) (stamps : List ℕ) (payloads : List (List ℕ)) → List ℕ
-parityPacket o stream l d p start stamps payloads =
+-- the parity packet of the group of a stream that starts at SNBase, where the members' timestamps and payloads are given
+abbrev pub parityPacket : Outer → (stream l d p snbase : ℕ) (timestamps : List ℕ) (payloads : List (List ℕ)) → List ℕ
+parityPacket o stream l d p snbase timestamps payloads =
     rtpHeader parityType (o .sequence) (o .timestamp) (o .ssrc)
-    ++ fecHeader stream l d p start (xorAll stamps)
+    ++ fecHeader stream l d p snbase (xorAll timestamps)
     ++ xorPayloads p payloads

@@ -4,14 +4,12 @@ use mathlib.Core.Bool.{Bool, true, false, not, _||_}
 use mathlib.Core.List.{List, [], _∷_, _++_}
 use Prim.Native.Nat.{ℕ, _≤_}
 use lib.Dec.{ltb}
-use lib.ListN.{length, replicate, length-replicate}
 use borrow.Author.Tests.{ltb-false, not-true, not-false}
 use Rattle.answer.specs.First.{first, first-hit, first-past, first-end, first-none, first-stops, first-goes}
 use Rattle.sequence.specs.Lists.{or-split}
 use Rattle.window.specs.declared.Window.{Window}
-use Rattle.window.specs.declared.Sizes.{Sizes}
 use Rattle.window.specs.Limits.{setUpTests}
-use Rattle.window.specs.Store.{Store, shortSizes, shortStore}
+use Rattle.window.specs.Store.{Store, shortStore}
 use Rattle.window.specs.Bounds.{SetUp, Sized, set-up-good, sizes-good}
 use Rattle.window.specs.Order.{disorder}
 use Rattle.window.specs.InOrder.{InOrder, in-order}
@@ -69,16 +67,3 @@ module _ (w : Window) (s : Store) (short : Bool) where
 
         pub none-stops : not good ≡ false → 0 ≡ first (standingBy w s short)
         none-stops h = goes 0 (first-past 0 4 (shortStore w s || short) ((5, disorder w s) ∷ []) long (first-past 0 5 (disorder w s) [] (not-true (disorder w s) (sym e ∙ not-false good h)) first-end))
-
--- ---- the sizes of a store, of which only some parts are at hand
-pub sizes-same : (w : Window) (z : Sizes) (s : Store) → z .media ≡ length (s .media) → z .timestamps ≡ length (s .timestamps) → z .marks ≡ length (s .marks) → z .parity ≡ length (s .parity)
-    → z .streams ≡ length (s .streams) → z .snbases ≡ length (s .snbases) → z .recoveries ≡ length (s .recoveries) → z .uses ≡ length (s .uses) → shortSizes w z ≡ shortStore w s
-sizes-same w z s e f g h i j k l = rw (e, f, g, h, i, j, k, l)
-
-pub tables-long : (w : Window) (z : Sizes) (marks streams snbases uses : List ℕ) → z .marks ≡ length marks → z .streams ≡ length streams → z .snbases ≡ length snbases → z .uses ≡ length uses
-    → shortSizes w z ≡ false → (w .n ≤ length marks) × (w .k ≤ length streams) × (w .k ≤ length snbases) × (w .k ≤ length uses)
-tables-long w z marks streams snbases uses e f g h short =
-    let some : ℕ → List ℕ = λ n. replicate n 0 in
-    let s : Store = record { media = some (z .media); timestamps = some (z .timestamps); marks = marks; parity = some (z .parity); streams = streams; snbases = snbases; recoveries = some (z .recoveries); uses = uses } in
-    let long = sizes-good w s (sym (sizes-same w z s (sym (length-replicate (z .media) 0)) (sym (length-replicate (z .timestamps) 0)) e (sym (length-replicate (z .parity) 0)) f g (sym (length-replicate (z .recoveries) 0)) h) ∙ short) in
-    (long .marks-long, long .streams-long, long .snbases-long, long .uses-long)

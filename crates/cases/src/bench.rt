@@ -1,4 +1,5 @@
 // The bench: the store that a receiver is lent, by value, with what the last call gave back, and the seven calls on it.
+// The table of records is kept as rows, row i at slot i, with room for one row more.
 use super::script;
 use super::wire;
 use answer::Answer;
@@ -6,18 +7,17 @@ use receiver::Receiver;
 use receiver::Step;
 ghost use Prim.Native.Nat.{_≤_};
 
-// The parts have one element more than 16 positions and 8 records need; media and parity payloads have all but one of the
-// bytes that 17 and 9 would need.
+// The parts have one element more than 16 positions and 8 records need; of the parity payloads all but one of the bytes that
+// 9 would need, and so of the media payloads, unless they are lent whole.
 pub struct Bench {
-    pub media: [u8; 3195],
+    pub whole: bool,
+    pub media: [u8; 3196],
     pub timestamps: [u32; 17],
     pub marks: [u8; 17],
     pub parity: [u8; 1691],
-    pub streams: [u8; 9],
-    pub snbases: [u16; 9],
-    pub recoveries: [u32; 9],
-    pub uses: [u8; 9],
-    pub step: Step,
+    pub words: [u32; 60],
+    pub answer: Answer,
+    pub receiver: Receiver,
 }
 
 // What was answered, and the bytes lent for output after it.
@@ -26,17 +26,54 @@ pub struct Wrote {
     pub out: [u8; 216],
 }
 
-// A window is opened over a store of old bytes.
-pub fn open(l: usize, d: usize, p: usize, n: usize, k: usize) -> Bench {
-    let mut media = [85u8; 3195];
+// How many records there are.
+const RECORDS: usize = 9;
+
+// Row i at slot i, with a mark, and one number in the other words of its record.
+fn filled_row(rows: [u32; 60], i: usize, mark: u32, other: u32) -> [u32; 60]
+    requires { ⌜ i ≤ 8 ⌝ }
+{
+    let mut words = rows;
+    words[i * table::ROW] = i as u32;
+    words[i * table::ROW + 2] = other;
+    words[i * table::ROW + 3] = mark;
+    words[i * table::ROW + 4] = other;
+    words[i * table::ROW + 5] = other;
+    words
+}
+
+// The first rows, each filled so.
+fn filled_rows(rows: [u32; 60], count: usize, mark: u32, other: u32) -> [u32; 60]
+    requires { ⌜ count ≤ 9 ⌝ }
+{
+    let mut words = rows;
+    let mut i = 0;
+    while i < count {
+        let next = filled_row(words, i, mark, other);
+        words = next;
+        i += 1;
+    }
+    words
+}
+
+// How many bytes of media payloads to lend: all, or all but the last.
+fn bytes_of(all: usize, whole: bool) -> usize
+    ensures { λ r. ⌜ r ≤ all ⌝ }
+{
+    if whole {
+        return all;
+    }
+    if all == 0 { 0 } else { all - 1 }
+}
+
+// A window is opened over a store of old bytes, and its records are set free.
+pub fn open(l: usize, d: usize, p: usize, n: usize, k: usize, whole: bool) -> Bench {
+    let mut media = [85u8; 3196];
     let mut timestamps = [85u32; 17];
     let mut marks = [8u8; 17];
     let mut parity = [85u8; 1691];
-    let mut streams = [85u8; 9];
-    let mut snbases = [85u16; 9];
-    let mut recoveries = [85u32; 9];
-    let mut uses = [8u8; 9];
-    let step = Receiver::open(
+    let bytes = bytes_of(3196, whole);
+    let opening = Receiver::open(
         wire::BASE,
         wire::SOURCE,
         l,
@@ -44,26 +81,32 @@ pub fn open(l: usize, d: usize, p: usize, n: usize, k: usize) -> Bench {
         p,
         n,
         k,
-        &mut media,
+        &mut media[0..bytes],
         &mut timestamps,
         &mut marks,
         &mut parity,
-        &mut streams,
-        &mut snbases,
-        &mut recoveries,
-        &mut uses,
+        RECORDS,
     );
+    let old = filled_rows([85u32; 60], RECORDS, 8, 85);
+    let words = filled_rows(old, opening.records, 0, 0);
+    let answer = opening.answer;
+    let receiver = opening.receiver;
     Bench {
+        whole,
         media,
         timestamps,
         marks,
         parity,
-        streams,
-        snbases,
-        recoveries,
-        uses,
-        step,
+        words,
+        answer,
+        receiver,
     }
+}
+
+// The rows that a call gets: those of the window's records, as far as there are any.
+fn rows_of(w: Receiver) -> usize {
+    let v = w.window;
+    if v.k < RECORDS { v.k } else { RECORDS }
 }
 
 // The bytes to lend for output: all, unless a step says how many.
@@ -78,64 +121,60 @@ fn room(what: u64, value: u16) -> usize
     216
 }
 
-// A datagram goes to a port: m media, t timestamps, k marks, p parity, s streams, b SNBases, r recoveries, u uses.
+// A datagram goes to a port: m media, t timestamps, k marks, p parity, h rows.
 fn hand_in(
     w: Receiver,
     port: u64,
     g: &[u8],
-    m: &mut [u8; 3195],
+    whole: bool,
+    m: &mut [u8],
     t: &mut [u32; 17],
     k: &mut [u8; 17],
     p: &mut [u8; 1691],
-    s: &mut [u8; 9],
-    b: &mut [u16; 9],
-    r: &mut [u32; 9],
-    u: &mut [u8; 9],
+    h: &mut [u32; 60],
 ) -> Step {
+    let e = bytes_of(m.len(), whole);
+    let rows = rows_of(w);
     if port == script::MEDIA {
-        return w.media(g, m, t, k, p, s, b, r, u);
+        return w.media(g, &mut m[0..e], t, k, p, h, rows, RECORDS);
     }
     if port == script::COLUMN {
-        return w.column(g, m, t, k, p, s, b, r, u);
+        return w.column(g, &mut m[0..e], t, k, p, h, rows, RECORDS);
     }
-    w.row(g, m, t, k, p, s, b, r, u)
+    w.row(g, &mut m[0..e], t, k, p, h, rows, RECORDS)
 }
 
 // A datagram is offered on a port.
 pub fn offer(bench: Bench, port: u64, g: &[u8]) -> Bench {
-    let before = bench.step;
-    let w = before.receiver;
+    let w = bench.receiver;
+    let whole = bench.whole;
     let mut media = bench.media;
     let mut timestamps = bench.timestamps;
     let mut marks = bench.marks;
     let mut parity = bench.parity;
-    let mut streams = bench.streams;
-    let mut snbases = bench.snbases;
-    let mut recoveries = bench.recoveries;
-    let mut uses = bench.uses;
+    let mut words = bench.words;
     let step = hand_in(
         w,
         port,
         g,
+        whole,
         &mut media,
         &mut timestamps,
         &mut marks,
         &mut parity,
-        &mut streams,
-        &mut snbases,
-        &mut recoveries,
-        &mut uses,
+        &mut words,
     );
+    let answer = step.answer;
+    let receiver = step.receiver;
     Bench {
+        whole,
         media,
         timestamps,
         marks,
         parity,
-        streams,
-        snbases,
-        recoveries,
-        uses,
-        step,
+        words,
+        answer,
+        receiver,
     }
 }
 
@@ -144,55 +183,60 @@ fn hand_out(
     w: Receiver,
     kind: u64,
     number: u16,
+    whole: bool,
     m: &[u8],
     t: &[u32],
     k: &[u8],
     p: &[u8],
-    s: &[u8],
-    b: &[u16],
-    r: &[u32],
-    u: &[u8],
+    h: &mut [u32; 60],
     out: &mut [u8],
 ) -> Step {
+    let e = bytes_of(m.len(), whole);
+    let rows = rows_of(w);
     if kind == script::READ {
-        return w.read(number, m, t, k, p, s, b, r, u, out);
+        return w.read(number, &m[0..e], t, k, p, h, rows, RECORDS, out);
     }
     if kind == script::WRITE_COLUMN {
-        return w.write_column(number, 7, 0, 0, m, t, k, p, s, b, r, u, out);
+        return w.write_column(number, 7, 0, 0, &m[0..e], t, k, p, h, rows, RECORDS, out);
     }
-    w.write_row(number, 7, 0, 0, m, t, k, p, s, b, r, u, out)
+    w.write_row(number, 7, 0, 0, &m[0..e], t, k, p, h, rows, RECORDS, out)
 }
 
 // A packet is read, or parity written.
 pub fn write(bench: Bench, kind: u64, number: u16, what: u64, value: u16) -> Wrote {
-    let before = bench.step;
-    let w = before.receiver;
+    let w = bench.receiver;
     let media = bench.media;
     let timestamps = bench.timestamps;
     let marks = bench.marks;
     let parity = bench.parity;
-    let streams = bench.streams;
-    let snbases = bench.snbases;
-    let recoveries = bench.recoveries;
-    let uses = bench.uses;
+    let mut words = bench.words;
     let mut out = [0u8; 216];
     let bytes = room(what, value);
     let step = hand_out(
         w,
         kind,
         number,
+        bench.whole,
         &media,
         &timestamps,
         &marks,
         &parity,
-        &streams,
-        &snbases,
-        &recoveries,
-        &uses,
+        &mut words,
         &mut out[0..bytes],
     );
     let answer = step.answer;
     Wrote { answer, out }
+}
+
+// The word of a row that a step sets.
+fn word_of(kind: u64) -> usize
+    ensures { λ r. ⌜ r ≤ 5 ⌝ }
+{
+    match kind {
+        script::STREAM => 2,
+        script::IN_USE => 3,
+        _ => 4,
+    }
 }
 
 // An element of the store is set from outside.
@@ -203,22 +247,12 @@ pub fn poke(b: Bench, kind: u64, number: u16, value: u16) -> Bench {
         if i < 17 {
             bench.marks[i] = rtp::low(value);
         }
-    } else if kind == script::IN_USE {
-        if i < 9 {
-            bench.uses[i] = rtp::low(value);
-        }
-    } else if kind == script::STREAM {
-        if i < 9 {
-            bench.streams[i] = rtp::low(value);
-        }
-    } else if kind == script::SNBASE {
-        if i < 9 {
-            bench.snbases[i] = value;
-        }
     } else if kind == script::PAYLOAD {
-        if i < 3195 {
+        if i < 3196 {
             bench.media[i] = rtp::low(value);
         }
+    } else if i < RECORDS {
+        bench.words[i * table::ROW + word_of(kind)] = value as u32;
     }
     bench
 }
@@ -226,9 +260,7 @@ pub fn poke(b: Bench, kind: u64, number: u16, value: u16) -> Bench {
 // A number of the window value is made up.
 pub fn make_up(b: Bench, kind: u64, value: u16) -> Bench {
     let mut bench = b;
-    let step = b.step;
-    let answer = step.answer;
-    let receiver = step.receiver;
+    let receiver = b.receiver;
     let mut window = receiver.window;
     let x = value as usize;
     if kind == script::VALUE_L {
@@ -242,10 +274,7 @@ pub fn make_up(b: Bench, kind: u64, value: u16) -> Bench {
     } else {
         window.present = x;
     }
-    let made = Step {
-        answer,
-        receiver: Receiver { window },
-    };
-    bench.step = made;
+    let made = Receiver { window };
+    bench.receiver = made;
     bench
 }

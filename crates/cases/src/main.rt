@@ -14,8 +14,7 @@ fn small(x: usize) -> u8 {
 
 // The datagram of a step, by the window's L and D.
 fn made(b: Bench, kind: u64, number: u16, what: u64, value: u16) -> [u8; 228] {
-    let step = b.step;
-    let r = step.receiver;
+    let r = b.receiver;
     let w = r.window;
     let l = small(w.l);
     if what == script::MEMBERS {
@@ -26,8 +25,7 @@ fn made(b: Bench, kind: u64, number: u16, what: u64, value: u16) -> [u8; 228] {
 
 // The last answer is shown.
 fn answered(b: Bench) {
-    let step = b.step;
-    let a = step.answer;
+    let a = b.answer;
     show::answer(a);
 }
 
@@ -66,8 +64,8 @@ fn written(b: Bench, kind: u64, number: u16, what: u64, value: u16) {
 // The marks are shown.
 fn shown(b: Bench) {
     let marks = b.marks;
-    let uses = b.uses;
-    show::marks(&marks, &uses);
+    let words = b.words;
+    show::marks(&marks, &words);
 }
 
 // A call is made, and its line shown.
@@ -125,13 +123,18 @@ fn run(bench: Bench, steps: &[u64]) {
     }
 }
 
-// A case: a window is opened, and the steps are done.
-fn case(l: usize, d: usize, p: usize, n: usize, k: usize, steps: &[u64]) {
-    let b = bench::open(l, d, p, n, k);
+// A case: a window is opened, and the steps are done; the media payloads are lent whole, or but for their last byte.
+fn lent(l: usize, d: usize, p: usize, n: usize, k: usize, whole: bool, steps: &[u64]) {
+    let b = bench::open(l, d, p, n, k, whole);
     show_set_up(l, d, p, n, k);
     answered(b);
     show::end();
     run(b, steps);
+}
+
+// A case with the last byte of 17 media payloads not lent.
+fn case(l: usize, d: usize, p: usize, n: usize, k: usize, steps: &[u64]) {
+    lent(l, d, p, n, k, false, steps);
 }
 
 // A case in a window of 4 by 4 with eight records.
@@ -235,6 +238,12 @@ fn lie_first() {
     );
 }
 
+// Order at one position: it takes 17 positions to show.
+fn column_first() {
+    show::text(b"at one position the column first: row 65534 lies\n");
+    lent(4, 4, 188, 17, 8, true, &script::COLUMN_FIRST);
+}
+
 fn main() {
     groups();
     case_10_11();
@@ -249,4 +258,5 @@ fn main() {
     number_0();
     true_first();
     lie_first();
+    column_first();
 }

@@ -355,3 +355,23 @@ pub const LIE_FIRST: [u64; 9] = [
     READ + 0,
     MEDIA + 0,
 ];
+
+// A column and a row at 65534 get ready at once, and the row lies about 65535. The column goes first, and what it rebuilds, 6,
+// lets the groups at smaller positions rebuild 65530, 65533 and 65535, by their true parity, before the row does.
+pub const COLUMN_FIRST: [u64; 15] = [
+    MEDIA + 65531,
+    MEDIA + 65532,
+    MEDIA + 0,
+    MEDIA + 1,
+    MEDIA + 2,
+    MEDIA + 10,
+    COLUMN + 65530,
+    ROW + 65530,
+    ROW + 65532,
+    COLUMN + 65534,
+    ROW + 65534 + BYTE_23 + 9 * IS,
+    MEDIA + 65534,
+    READ + 65535,
+    MEDIA + 65535,
+    SHOW,
+];

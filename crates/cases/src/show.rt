@@ -58,12 +58,26 @@ fn row_of(marks: &[u8]) {
     }
 }
 
+// The in-use mark of a row.
+fn in_use(word: u32) {
+    decimal(word as usize);
+}
+
+// The in-use marks of nine rows side by side.
+fn uses_of(words: &[u32; 60]) {
+    let mut i = 0;
+    while i < 9 {
+        in_use(words[i * table::ROW + 3]);
+        i += 1;
+    }
+}
+
 // The marks of the positions and of the records.
-pub fn marks(present: &[u8], uses: &[u8]) {
+pub fn marks(present: &[u8], words: &[u32; 60]) {
     text(b"  present ");
     row_of(present);
     text(b", in use ");
-    row_of(uses);
+    uses_of(words);
     end();
 }
 

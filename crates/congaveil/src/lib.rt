@@ -1,13 +1,13 @@
 // The library for cards in C and Rust: the calls of document 01 over what a card lends, its records a table.
 // Every call ends on every input; a refused one gives back its number and changes nothing that was lent.
-// Where no record is in use, media are offered, packets read and parity written without a copy of the table.
-use records::Record;
-use tabled::Reply;
+use face::Reply;
+use window::Record;
 use window::Window;
 ghost use mathlib.Core.Path.{_≡_};
+ghost use Rattle.window.specs.Store.{stored};
 ghost use Rattle.rtp.specs.Fec.{column, row};
-ghost use Rattle.calls.specs.Call.{asked};
-ghost use Rattle.tabled.specs.Table.{openedTable, mediaTable, parityTable, readTable, wroteTable};
+ghost use Rattle.calls.specs.Call.{asked, opened, offeredMedia, offeredParity, readOut, wroteParity};
+ghost use Rattle.face.specs.Reply.{replied, filled};
 
 // Opens a window over n positions from a base number; all that it needs of the store is set to zero.
 #[no_mangle]
@@ -25,11 +25,10 @@ pub extern "C" fn cgv_open(
     parity: &mut [u8],
     records: &mut [Record],
 ) -> Reply
-    ensures { λ r. ⌜ record { reply = r; lent = record { media = now (media .exit); timestamps = now (timestamps .exit); marks = now (marks .exit); parity = now (parity .exit); records = now (records .exit) } }
-        ≡ openedTable (asked base ssrc l d p n k) (record { media = now (media .entry); timestamps = now (timestamps .entry); marks = now (marks .entry); parity = now (parity .entry); records = now (records .entry) }) ⌝ }
+    ensures { λ r. ⌜ record { reply = r; store = stored (now (media .exit)) (now (timestamps .exit)) (now (marks .exit)) (now (parity .exit)) (now (records .exit)) }
+        ≡ replied (opened (asked base ssrc l d p n k) (stored (now (media .entry)) (now (timestamps .entry)) (now (marks .entry)) (now (parity .entry)) (now (records .entry)))) ⌝ }
 {
-    let rows = records::load(records);
-    let done = tabled::open_rows(
+    let done = face::open(
         base,
         l,
         d,
@@ -41,10 +40,9 @@ pub extern "C" fn cgv_open(
         timestamps,
         marks,
         parity,
-        rows,
         records.len(),
     );
-    records::save(records, done.n, done.rows);
+    table::wipe(records, done.rows);
     done.reply
 }
 
@@ -59,24 +57,24 @@ pub extern "C" fn cgv_media(
     parity: &mut [u8],
     records: &mut [Record],
 ) -> Reply
-    ensures { λ r. ⌜ record { reply = r; lent = record { media = now (media .exit); timestamps = now (timestamps .exit); marks = now (marks .exit); parity = now (parity .exit); records = now (records .exit) } }
-        ≡ mediaTable w (now (datagram .entry)) (record { media = now (media .entry); timestamps = now (timestamps .entry); marks = now (marks .entry); parity = now (parity .entry); records = now (records .entry) }) ⌝ }
+    ensures { λ r. ⌜ record { reply = r; store = stored (now (media .exit)) (now (timestamps .exit)) (now (marks .exit)) (now (parity .exit)) (now (records .exit)) }
+        ≡ replied (offeredMedia w (now (datagram .entry)) (stored (now (media .entry)) (now (timestamps .entry)) (now (marks .entry)) (now (parity .entry)) (now (records .entry)))) ⌝ }
 {
-    if records::idle(records, w.k) {
-        return tabled::media_idle(w, datagram, media, timestamps, marks, parity, records.len());
-    }
-    let rows = records::load(records);
-    let done = tabled::media_rows(
+    let k = face::reach(records.len(), w.k);
+    let mut words = face::blanks();
+    let m = table::gather(records, k, &mut words, window::MOST_RECORDS);
+    let done = face::media(
         w,
         datagram,
         media,
         timestamps,
         marks,
         parity,
-        rows,
+        &mut words,
+        m,
         records.len(),
     );
-    records::save(records, done.n, done.rows);
+    table::scatter_back(records, &words, done.rows);
     done.reply
 }
 
@@ -91,21 +89,24 @@ pub extern "C" fn cgv_column(
     parity: &mut [u8],
     records: &mut [Record],
 ) -> Reply
-    ensures { λ r. ⌜ record { reply = r; lent = record { media = now (media .exit); timestamps = now (timestamps .exit); marks = now (marks .exit); parity = now (parity .exit); records = now (records .exit) } }
-        ≡ parityTable column w (now (datagram .entry)) (record { media = now (media .entry); timestamps = now (timestamps .entry); marks = now (marks .entry); parity = now (parity .entry); records = now (records .entry) }) ⌝ }
+    ensures { λ r. ⌜ record { reply = r; store = stored (now (media .exit)) (now (timestamps .exit)) (now (marks .exit)) (now (parity .exit)) (now (records .exit)) }
+        ≡ replied (offeredParity column w (now (datagram .entry)) (stored (now (media .entry)) (now (timestamps .entry)) (now (marks .entry)) (now (parity .entry)) (now (records .entry)))) ⌝ }
 {
-    let rows = records::load(records);
-    let done = tabled::column_rows(
+    let k = face::reach(records.len(), w.k);
+    let mut words = face::blanks();
+    let m = table::gather(records, k, &mut words, window::MOST_RECORDS);
+    let done = face::column(
         w,
         datagram,
         media,
         timestamps,
         marks,
         parity,
-        rows,
+        &mut words,
+        m,
         records.len(),
     );
-    records::save(records, done.n, done.rows);
+    table::scatter_back(records, &words, done.rows);
     done.reply
 }
 
@@ -120,21 +121,24 @@ pub extern "C" fn cgv_row(
     parity: &mut [u8],
     records: &mut [Record],
 ) -> Reply
-    ensures { λ r. ⌜ record { reply = r; lent = record { media = now (media .exit); timestamps = now (timestamps .exit); marks = now (marks .exit); parity = now (parity .exit); records = now (records .exit) } }
-        ≡ parityTable row w (now (datagram .entry)) (record { media = now (media .entry); timestamps = now (timestamps .entry); marks = now (marks .entry); parity = now (parity .entry); records = now (records .entry) }) ⌝ }
+    ensures { λ r. ⌜ record { reply = r; store = stored (now (media .exit)) (now (timestamps .exit)) (now (marks .exit)) (now (parity .exit)) (now (records .exit)) }
+        ≡ replied (offeredParity row w (now (datagram .entry)) (stored (now (media .entry)) (now (timestamps .entry)) (now (marks .entry)) (now (parity .entry)) (now (records .entry)))) ⌝ }
 {
-    let rows = records::load(records);
-    let done = tabled::row_rows(
+    let k = face::reach(records.len(), w.k);
+    let mut words = face::blanks();
+    let m = table::gather(records, k, &mut words, window::MOST_RECORDS);
+    let done = face::row(
         w,
         datagram,
         media,
         timestamps,
         marks,
         parity,
-        rows,
+        &mut words,
+        m,
         records.len(),
     );
-    records::save(records, done.n, done.rows);
+    table::scatter_back(records, &words, done.rows);
     done.reply
 }
 
@@ -151,29 +155,20 @@ pub extern "C" fn cgv_read(
     out: &mut [u8],
 ) -> Reply
     ensures { λ r. ⌜ record { reply = r; out = now (out .exit) }
-        ≡ readTable w number (record { media = now (media .entry); timestamps = now (timestamps .entry); marks = now (marks .entry); parity = now (parity .entry); records = now (records .entry) }) (now (out .entry)) ⌝ }
+        ≡ filled (readOut w number (stored (now (media .entry)) (now (timestamps .entry)) (now (marks .entry)) (now (parity .entry)) (now (records .entry))) (now (out .entry))) ⌝ }
 {
-    if records::idle(records, w.k) {
-        return tabled::read_idle(
-            w,
-            number,
-            media,
-            timestamps,
-            marks,
-            parity,
-            records.len(),
-            out,
-        );
-    }
-    let rows = records::load(records);
-    tabled::read_rows(
+    let k = face::reach(records.len(), w.k);
+    let mut words = face::blanks();
+    let m = table::gather(records, k, &mut words, window::MOST_RECORDS);
+    face::read(
         w,
         number,
         media,
         timestamps,
         marks,
         parity,
-        rows,
+        &mut words,
+        m,
         records.len(),
         out,
     )
@@ -195,25 +190,12 @@ pub extern "C" fn cgv_write_column(
     out: &mut [u8],
 ) -> Reply
     ensures { λ r. ⌜ record { reply = r; out = now (out .exit) }
-        ≡ wroteTable column w snbase (record { sequence = sequence; timestamp = timestamp; ssrc = ssrc }) (record { media = now (media .entry); timestamps = now (timestamps .entry); marks = now (marks .entry); parity = now (parity .entry); records = now (records .entry) }) (now (out .entry)) ⌝ }
+        ≡ filled (wroteParity column w snbase (record { sequence = sequence; timestamp = timestamp; ssrc = ssrc }) (stored (now (media .entry)) (now (timestamps .entry)) (now (marks .entry)) (now (parity .entry)) (now (records .entry))) (now (out .entry))) ⌝ }
 {
-    if records::idle(records, w.k) {
-        return tabled::write_column_idle(
-            w,
-            snbase,
-            sequence,
-            timestamp,
-            ssrc,
-            media,
-            timestamps,
-            marks,
-            parity,
-            records.len(),
-            out,
-        );
-    }
-    let rows = records::load(records);
-    tabled::write_column_rows(
+    let k = face::reach(records.len(), w.k);
+    let mut words = face::blanks();
+    let m = table::gather(records, k, &mut words, window::MOST_RECORDS);
+    face::write_column(
         w,
         snbase,
         sequence,
@@ -223,7 +205,8 @@ pub extern "C" fn cgv_write_column(
         timestamps,
         marks,
         parity,
-        rows,
+        &mut words,
+        m,
         records.len(),
         out,
     )
@@ -245,25 +228,12 @@ pub extern "C" fn cgv_write_row(
     out: &mut [u8],
 ) -> Reply
     ensures { λ r. ⌜ record { reply = r; out = now (out .exit) }
-        ≡ wroteTable row w snbase (record { sequence = sequence; timestamp = timestamp; ssrc = ssrc }) (record { media = now (media .entry); timestamps = now (timestamps .entry); marks = now (marks .entry); parity = now (parity .entry); records = now (records .entry) }) (now (out .entry)) ⌝ }
+        ≡ filled (wroteParity row w snbase (record { sequence = sequence; timestamp = timestamp; ssrc = ssrc }) (stored (now (media .entry)) (now (timestamps .entry)) (now (marks .entry)) (now (parity .entry)) (now (records .entry))) (now (out .entry))) ⌝ }
 {
-    if records::idle(records, w.k) {
-        return tabled::write_row_idle(
-            w,
-            snbase,
-            sequence,
-            timestamp,
-            ssrc,
-            media,
-            timestamps,
-            marks,
-            parity,
-            records.len(),
-            out,
-        );
-    }
-    let rows = records::load(records);
-    tabled::write_row_rows(
+    let k = face::reach(records.len(), w.k);
+    let mut words = face::blanks();
+    let m = table::gather(records, k, &mut words, window::MOST_RECORDS);
+    face::write_row(
         w,
         snbase,
         sequence,
@@ -273,7 +243,8 @@ pub extern "C" fn cgv_write_row(
         timestamps,
         marks,
         parity,
-        rows,
+        &mut words,
+        m,
         records.len(),
         out,
     )

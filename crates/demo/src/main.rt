@@ -10,7 +10,7 @@ ghost use Prim.Native.Nat.{_≤_};
 
 // The number of a position.
 fn number_of(i: u8) -> u16 {
-    sequence::next(side::BASE, i)
+    sequence::next(side::BASE, i as u16)
 }
 
 // The positions lost on the way: a burst of four that crosses the wrap, and two alone.
@@ -146,7 +146,7 @@ fn parity_packet(sender: Side, stream: u8, j: u8) -> [u8; 216] {
 // A parity packet is offered, and its answer printed.
 fn offer_one(to: Side, stream: u8, start: u16, packet: &[u8]) -> Side {
     let after = side::offer(to, stream, packet);
-    let a = side::answered(after);
+    let a = after.answer;
     print_answer(stream, start, a);
     after
 }

@@ -15,60 +15,67 @@ pub const ROW: u8 = 1;
 
 pub const MEDIA: u8 = 2;
 
-// The store of 16 positions and 8 records of 188 bytes, and what the last call gave back.
+// How many records there are.
+const RECORDS: usize = 8;
+
+// The store of 16 positions and 8 records of 188 bytes, and what the last call gave back. The table of records is kept as
+// rows, row i at slot i, with room for one row more.
 pub struct Side {
     pub media: [u8; 3008],
     pub timestamps: [u32; 16],
     pub marks: [u8; 16],
     pub parity: [u8; 1504],
-    pub streams: [u8; 8],
-    pub snbases: [u16; 8],
-    pub recoveries: [u32; 8],
-    pub uses: [u8; 8],
-    pub step: Step,
+    pub words: [u32; 54],
+    pub answer: Answer,
+    pub receiver: Receiver,
 }
 
-// A window of 4 columns and 4 rows is opened.
+// Rows that are free, each at its slot.
+fn free_rows() -> [u32; 54] {
+    let mut words = [0u32; 54];
+    let mut i = 0;
+    while i < RECORDS {
+        words[i * table::ROW] = i as u32;
+        i += 1;
+    }
+    words
+}
+
+// A window of 4 columns and 4 rows is opened. Its records are to be set free: its rows are new, and free already.
 pub fn open() -> Side {
     let mut media = [0u8; 3008];
     let mut timestamps = [0u32; 16];
     let mut marks = [0u8; 16];
     let mut parity = [0u8; 1504];
-    let mut streams = [0u8; 8];
-    let mut snbases = [0u16; 8];
-    let mut recoveries = [0u32; 8];
-    let mut uses = [0u8; 8];
-    let step = Receiver::open(
+    let opening = Receiver::open(
         BASE,
         SOURCE,
         4,
         4,
         188,
         16,
-        8,
+        RECORDS,
         &mut media,
         &mut timestamps,
         &mut marks,
         &mut parity,
-        &mut streams,
-        &mut snbases,
-        &mut recoveries,
-        &mut uses,
+        RECORDS,
     );
+    let words = free_rows();
+    let answer = opening.answer;
+    let receiver = opening.receiver;
     Side {
         media,
         timestamps,
         marks,
         parity,
-        streams,
-        snbases,
-        recoveries,
-        uses,
-        step,
+        words,
+        answer,
+        receiver,
     }
 }
 
-// A datagram goes to a port: m media, t timestamps, k marks, p parity, s streams, b SNBases, r recoveries, u uses.
+// A datagram goes to a port: m media, t timestamps, k marks, p parity, h rows.
 fn hand_in(
     w: Receiver,
     port: u8,
@@ -77,32 +84,25 @@ fn hand_in(
     t: &mut [u32; 16],
     k: &mut [u8; 16],
     p: &mut [u8; 1504],
-    s: &mut [u8; 8],
-    b: &mut [u16; 8],
-    r: &mut [u32; 8],
-    u: &mut [u8; 8],
+    h: &mut [u32; 54],
 ) -> Step {
     if port == MEDIA {
-        return w.media(g, m, t, k, p, s, b, r, u);
+        return w.media(g, m, t, k, p, h, RECORDS, RECORDS);
     }
     if port == COLUMN {
-        return w.column(g, m, t, k, p, s, b, r, u);
+        return w.column(g, m, t, k, p, h, RECORDS, RECORDS);
     }
-    w.row(g, m, t, k, p, s, b, r, u)
+    w.row(g, m, t, k, p, h, RECORDS, RECORDS)
 }
 
 // A datagram is offered on a port.
 pub fn offer(side: Side, port: u8, g: &[u8]) -> Side {
-    let before = side.step;
-    let w = before.receiver;
+    let w = side.receiver;
     let mut media = side.media;
     let mut timestamps = side.timestamps;
     let mut marks = side.marks;
     let mut parity = side.parity;
-    let mut streams = side.streams;
-    let mut snbases = side.snbases;
-    let mut recoveries = side.recoveries;
-    let mut uses = side.uses;
+    let mut words = side.words;
     let step = hand_in(
         w,
         port,
@@ -111,42 +111,29 @@ pub fn offer(side: Side, port: u8, g: &[u8]) -> Side {
         &mut timestamps,
         &mut marks,
         &mut parity,
-        &mut streams,
-        &mut snbases,
-        &mut recoveries,
-        &mut uses,
+        &mut words,
     );
+    let answer = step.answer;
+    let receiver = step.receiver;
     Side {
         media,
         timestamps,
         marks,
         parity,
-        streams,
-        snbases,
-        recoveries,
-        uses,
-        step,
+        words,
+        answer,
+        receiver,
     }
-}
-
-// The answer of the last call.
-pub fn answered(side: Side) -> Answer {
-    let step = side.step;
-    step.answer
 }
 
 // The packet of a number as it is read out; zeros where it is missing.
 pub fn packet(side: Side, number: u16) -> [u8; 200] {
-    let before = side.step;
-    let w = before.receiver;
+    let w = side.receiver;
     let media = side.media;
     let timestamps = side.timestamps;
     let marks = side.marks;
     let parity = side.parity;
-    let streams = side.streams;
-    let snbases = side.snbases;
-    let recoveries = side.recoveries;
-    let uses = side.uses;
+    let mut words = side.words;
     let mut out = [0u8; 200];
     w.read(
         number,
@@ -154,10 +141,9 @@ pub fn packet(side: Side, number: u16) -> [u8; 200] {
         &timestamps,
         &marks,
         &parity,
-        &streams,
-        &snbases,
-        &recoveries,
-        &uses,
+        &mut words,
+        RECORDS,
+        RECORDS,
         &mut out,
     );
     out
@@ -165,16 +151,12 @@ pub fn packet(side: Side, number: u16) -> [u8; 200] {
 
 // The parity packet of the column that starts at a number; zeros where one of it is missing.
 pub fn column(side: Side, start: u16, sequence: u16) -> [u8; 216] {
-    let before = side.step;
-    let w = before.receiver;
+    let w = side.receiver;
     let media = side.media;
     let timestamps = side.timestamps;
     let marks = side.marks;
     let parity = side.parity;
-    let streams = side.streams;
-    let snbases = side.snbases;
-    let recoveries = side.recoveries;
-    let uses = side.uses;
+    let mut words = side.words;
     let mut out = [0u8; 216];
     w.write_column(
         start,
@@ -185,10 +167,9 @@ pub fn column(side: Side, start: u16, sequence: u16) -> [u8; 216] {
         &timestamps,
         &marks,
         &parity,
-        &streams,
-        &snbases,
-        &recoveries,
-        &uses,
+        &mut words,
+        RECORDS,
+        RECORDS,
         &mut out,
     );
     out
@@ -196,16 +177,12 @@ pub fn column(side: Side, start: u16, sequence: u16) -> [u8; 216] {
 
 // The parity packet of the row that starts at a number; zeros where one of it is missing.
 pub fn row(side: Side, start: u16, sequence: u16) -> [u8; 216] {
-    let before = side.step;
-    let w = before.receiver;
+    let w = side.receiver;
     let media = side.media;
     let timestamps = side.timestamps;
     let marks = side.marks;
     let parity = side.parity;
-    let streams = side.streams;
-    let snbases = side.snbases;
-    let recoveries = side.recoveries;
-    let uses = side.uses;
+    let mut words = side.words;
     let mut out = [0u8; 216];
     w.write_row(
         start,
@@ -216,10 +193,9 @@ pub fn row(side: Side, start: u16, sequence: u16) -> [u8; 216] {
         &timestamps,
         &marks,
         &parity,
-        &streams,
-        &snbases,
-        &recoveries,
-        &uses,
+        &mut words,
+        RECORDS,
+        RECORDS,
         &mut out,
     );
     out

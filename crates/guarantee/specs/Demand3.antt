@@ -9,12 +9,13 @@ use lib.Dec.{eqb}
 use Rattle.answer.specs.declared.Answer.the-variants.{Done}
 use Rattle.sequence.specs.Lists.{count}
 use Rattle.sequence.specs.Wrap.{numberAt}
-use Rattle.rtp.specs.Rtp.{sequenceNumber, timestamp}
+use Rattle.rtp.specs.Rtp.{sequenceNumber}
 use Rattle.rtp.specs.Fec.{column, row, snbase}
 use Rattle.rtp.specs.Faults.{noRow}
 use Rattle.window.specs.declared.Window.{Window}
+use Rattle.window.specs.Limits.{width}
 use Rattle.window.specs.Store.{Store, payloadAt, timestampAt}
-use Rattle.window.specs.Group.{width, group, inside}
+use Rattle.window.specs.Group.{group, inside}
 use Rattle.calls.specs.Datagram.{mediaPacket, Outer, parityPacket}
 use Rattle.calls.specs.Call.{Outcome, asked, opened, offeredMedia, offeredColumn, offeredRow}
 
@@ -48,9 +49,9 @@ run x (o ∷ offers) = run (offered o (x .window) (x .store)) offers
 
 -- a stretch: n media packets, one for each position, with any timestamp and P payload bytes
 pub record Stretch (w : Window) : Type 0 where
-  pub stamp : ℕ → ℕ
+  pub timestamp : ℕ → ℕ
   pub payload : ℕ → List ℕ
-  pub stamp-fits : (i : ℕ) → i < w .n → stamp i < 2 ^ 32
+  pub timestamp-fits : (i : ℕ) → i < w .n → timestamp i < 2 ^ 32
   pub size : (i : ℕ) → i < w .n → length (payload i) ≡ w .p
   pub bytes : (i : ℕ) → i < w .n → (b : ℕ) → List·Memᴰ b (payload i) → b < 256
 
@@ -60,20 +61,20 @@ pub record UnalteredMedia (w : Window) (t : Stretch w) (datagram : List ℕ) : T
   pub ssrc : ℕ
   pub in-window : place < w .n
   pub ssrc-fits : ssrc < 2 ^ 32
-  pub is : datagram ≡ mediaPacket (numberAt width (w .base) place) (t .stamp place) ssrc (t .payload place)
+  pub is : datagram ≡ mediaPacket (numberAt width (w .base) place) (t .timestamp place) ssrc (t .payload place)
 
 -- an unaltered parity packet: the datagram of a group of the stream, recovery taken over the stretch (a row only where L ≥ 4);
 -- "each group lies wholly inside the window"; any RTP sequence number, timestamp and SSRC will do
 pub record UnalteredParity (w : Window) (t : Stretch w) (stream : ℕ) (datagram : List ℕ) : Type 0 where
-  pub start : ℕ
+  pub snbase : ℕ
   pub outer : Outer
-  pub start-fits : start < 2 ^ 16
+  pub snbase-fits : snbase < 2 ^ 16
   pub sequence-fits : outer .sequence < 2 ^ 16
   pub timestamp-fits : outer .timestamp < 2 ^ 32
   pub ssrc-fits : outer .ssrc < 2 ^ 32
   pub permitted : noRow stream (w .l) ≡ false
-  pub in-window : inside w stream start ≡ true
-  pub is : datagram ≡ parityPacket outer stream (w .l) (w .d) (w .p) start (map (t .stamp) (group w stream start)) (map (t .payload) (group w stream start))
+  pub in-window : inside w stream snbase ≡ true
+  pub is : datagram ≡ parityPacket outer stream (w .l) (w .d) (w .p) snbase (map (t .timestamp) (group w stream snbase)) (map (t .payload) (group w stream snbase))
 
 -- an unaltered packet on its own port
 abbrev pub UnalteredOn : (w : Window) → Stretch w → Port → List ℕ → Type 0
@@ -90,7 +91,7 @@ Unaltered w t o = UnalteredOn w t (o .port) (o .datagram)
 -- a packet of the stretch: a media packet by its number, a parity packet by its group
 pub data Name : Type 0 where
   mediaName : (number : ℕ) → Name
-  parityName : (stream start : ℕ) → Name
+  parityName : (stream snbase : ℕ) → Name
 
 -- the packet that a datagram on a port is
 abbrev pub nameOn : Port → List ℕ → Name
@@ -111,7 +112,7 @@ Received offers x = List·Memᴰ x (map nameOf offers)
 -- the group of a parity packet; a media packet has none
 abbrev pub groupNamed : Name → List (ℕ × ℕ)
 groupNamed (mediaName number) = []
-groupNamed (parityName stream start) = (stream, start) ∷ []
+groupNamed (parityName stream snbase) = (stream, snbase) ∷ []
 
 -- the groups of the parity packets of a list
 abbrev pub groupsOf : List Offer → List (ℕ × ℕ)
@@ -151,12 +152,12 @@ markAt s i = getD (s .marks) i 0
 pub record Hidden (w : Window) (offers : List Offer) (S : ℕ → Bool) : Type 0 where
   pub of-stretch : (i : ℕ) → S i ≡ true → i < w .n
   pub unreceived : (i : ℕ) → S i ≡ true → ¬ Received offers (mediaName (numberAt width (w .base) i))
-  pub never-one : (stream start : ℕ) → Received offers (parityName stream start) → count S (group w stream start) ≢ 1
+  pub never-one : (stream snbase : ℕ) → Received offers (parityName stream snbase) → count S (group w stream snbase) ≢ 1
 
 -- "every packet present equals the one sent in number, timestamp and payload; a packet is missing exactly when it belongs to such a set"
 pub record Demand3 (w : Window) (t : Stretch w) (offers : List Offer) (s : Store) : Type 0 where
   pub mark : (i : ℕ) → i < w .n → (markAt s i ≡ 0) ⊎ (markAt s i ≡ 1)
-  pub present : (i : ℕ) → i < w .n → markAt s i ≡ 1 → (timestampAt s i ≡ t .stamp i) × (payloadAt w s i ≡ t .payload i)
+  pub present : (i : ℕ) → i < w .n → markAt s i ≡ 1 → (timestampAt s i ≡ t .timestamp i) × (payloadAt w s i ≡ t .payload i)
   pub missing : (i : ℕ) → i < w .n → (markAt s i ≡ 0) ↔ ((S : ℕ → Bool) × Hidden w offers S × (S i ≡ true))
 
 -- ---- the claims, proved in Theorem.antt: demand3 and demand3-same

@@ -1,34 +1,36 @@
 -- The invariant of a run: the store is in order, and the theory's Inv holds for the offers made so far. Every faultless offer keeps it.
 use mathlib.Core.Path.{_≡_, refl, sym, ap, _∙_, subst}
-use mathlib.Core.Logic.{_≢_, _⊎_, inl, inr, ⊎-elim}
+use mathlib.Core.Logic.{_⊎_, inl, inr, ⊎-elim}
 use mathlib.Core.Bool.{Bool, true, false, not, _&&_, and-false, true≢false}
 use mathlib.Core.Option.{none}
 use mathlib.Core.List.{List, [], _∷_, _++_, List·Memᴰ, List·Memᴰ·not-nil, List·Memᴰ·append-cases, List·Memᴰ·eq-of-singleton, Memᴰ·cast}
-use Prim.Native.Nat.{ℕ, _+_, _*_, _-_, _^_, _<_, _≤_}
+use Prim.Native.Nat.{ℕ, _*_, _^_, _<_, _≤_}
 use native.Mathlib.Decide.{decLt}
 use native.Mathlib.Omega.{arith}
 use lib.ListN.{length, getD, replicate, drop, length-append, length-replicate, List·getD-append, getD-replicate}
-use lib.Dec.{eqb, ltb}
+use lib.Dec.{eqb, leb, ltb}
 use borrow.Author.Tests.{eqb-true, lt-ltb, ne-eqb}
 use Rattle.answer.specs.First.{first, None, first-append}
 use Rattle.sequence.specs.Lists.{upTo, any, any-false, false-any}
-use Rattle.rtp.specs.Rtp.{sequenceNumber, timestamp}
+use Rattle.rtp.specs.Rtp.{sequenceNumber}
 use Rattle.rtp.specs.Fec.{snbase}
 use Rattle.rtp.specs.Faults.{mediaTests, parityTests}
 use Rattle.window.specs.declared.Window.{Window}
-use Rattle.window.specs.Limits.{setUpTests}
-use Rattle.window.specs.Store.{Store, streamAt, snbaseAt, timestampAt, payloadAt, zeroed}
-use Rattle.window.specs.Group.{position, group, inside, lost, missing}
-use Rattle.window.specs.Order.{here, inUse}
-use Rattle.settle.specs.State.{recount}
-use Rattle.calls.specs.Accept.{mediaPayload}
+use Rattle.window.specs.Record.{blank}
+use Rattle.window.specs.Limits.{width, leastMissing, setUpTests}
+use Rattle.window.specs.Store.{Store, recordAt}
+use Rattle.window.specs.Group.{position, group, inside, isMissing, missing}
+use Rattle.window.specs.Order.{isPresent, inUse}
+use Rattle.calls.specs.Content.{recoveryAt}
+use Rattle.calls.specs.State.{recount}
+use Rattle.calls.specs.Accept.{contentOf}
 use Rattle.sequence.specs.Lists.{and-split as both}
-use Rattle.calls.specs.Call.{Outcome, same, standingTests, mediaPlaceTests, mediaOfferTests, holds, holdsSame, parityPlaceTests, parityOfferTests, refused, offeredMedia, offeredParity, cleared}
+use Rattle.calls.specs.Call.{Outcome, sameContent, contentAt, standingTests, mediaPlaceTests, mediaOfferTests, holds, holdsSame, parityPlaceTests, parityOfferTests, refused, offeredMedia, offeredParity, cleared}
 use Rattle.peel.specs.Peel.{Offer, media, check, Here, Inv, inv-start, inv-take}
 use Rattle.guarantee.specs.Ranges.{decide, any-some, upTo-lt, count-zero, Out, take-out, pigeon}
-use Rattle.guarantee.specs.Packets.{Packet, xored, blank}
-use Rattle.guarantee.specs.View.{Held, recordAt, view, groupOf, slotAt, slot-lost, slot-out, miss-lost}
-use Rattle.guarantee.specs.Order.{InOrder, stands}
+use Rattle.guarantee.specs.Packets.{Packet, xored, zeros, packetOf}
+use Rattle.guarantee.specs.View.{groupOf, checkAt, Held, view, slotAt, slot-missing, slot-out, miss-mark}
+use Rattle.guarantee.specs.Order.{Ordered, stands}
 use Rattle.guarantee.specs.Accepted.{Settled}
 use Rattle.guarantee.specs.Offers.{mediaSeen, paritySeen, none-join, is-holder, media-accepted, parity-accepted}
 
@@ -37,8 +39,8 @@ pub record Fine (w : Window) (D : List (ℕ × ℕ)) (os : List (Offer (ℕ × �
   pub present : ℕ
   pub used : ℕ
   pub window : v ≡ recount w present used
-  pub order : InOrder w present used s
-  pub inv : Inv (groupOf w) xored blank os (view w s)
+  pub order : Ordered w present used s
+  pub inv : Inv (groupOf w) xored zeros os (view w s)
   pub keyed : (k : ℕ × ℕ) (x : Packet) → List·Memᴰ (check k x) os → List·Memᴰ k D
 
 -- the window value in its normal form
@@ -47,7 +49,7 @@ refresh f = record { present = f .present; used = f .used; window = refl; order 
 
 -- the window value that a run starts from
 pub record Opened (w : Window) : Type 0 where
-  pub based : w .base < 2 ^ 16
+  pub based : w .base < 2 ^ width
   pub faultless : None (setUpTests w)
 
 -- ---- which test applies
@@ -97,7 +99,7 @@ module _ {D : List (ℕ × ℕ)} {os : List (Offer (ℕ × ℕ) Packet)} (p : Of
     used = f .used;
     window = f .window;
     order = f .order;
-    inv = inv-take (groupOf w) xored blank (f .inv) (record { keeps = λ i x e. e; new = λ i x e. inl e; sub = λ k x e. inl e; release = λ k x e. inl e; here = h });
+    inv = inv-take (groupOf w) xored zeros (f .inv) (record { keeps = λ i x e. e; new = λ i x e. inl e; sub = λ k x e. inl e; release = λ k x e. inl e; here = h });
     keyed = keyed-on (f .keyed);
   }
 
@@ -109,7 +111,7 @@ module _ {w : Window} (O : Opened w) {D : List (ℕ × ℕ)} (room : length D �
   -- a media datagram without a fault, at a position of the window, keeps the invariant
   pub fine-media : {v : Window} {s : Store} (g : List ℕ) → None (mediaTests (w .p) g) → position w (sequenceNumber g) < w .n
       → Fine w D os v s → Fine w D (os ++ (mediaSeen w g ∷ [])) (offeredMedia v g s .window) (offeredMedia v g s .store)
-  fine-media {v} {s} g faultless h f = subst (λ z. Fine w D (os ++ (mediaSeen w g ∷ [])) (offeredMedia z g s .window) (offeredMedia z g s .store)) (sym (f .window)) (go (decide (lost s i)))
+  fine-media {v} {s} g faultless h f = subst (λ z. Fine w D (os ++ (mediaSeen w g ∷ [])) (offeredMedia z g s .window) (offeredMedia z g s .store)) (sym (f .window)) (go (decide (isMissing (s .marks) i)))
     where
       i : ℕ
       i = position w (sequenceNumber g)
@@ -128,13 +130,13 @@ module _ {w : Window} (O : Opened w) {D : List (ℕ × ℕ)} (room : length D �
       out = rw (lt-ltb i (w .n) h)
 
       alike : Bool
-      alike = eqb (timestampAt s i) (timestamp g) && same (payloadAt w s i) (mediaPayload g)
+      alike = sameContent (contentAt w s i) (contentOf g)
 
-      go : (lost s i ≡ true) ⊎ (lost s i ≡ false) → Fine w D (os ++ (mediaSeen w g ∷ [])) (offeredMedia x g s .window) (offeredMedia x g s .store)
+      go : (isMissing (s .marks) i ≡ true) ⊎ (isMissing (s .marks) i ≡ false) → Fine w D (os ++ (mediaSeen w g ∷ [])) (offeredMedia x g s .window) (offeredMedia x g s .store)
       go (inl e) = accept (mediaSeen w g) key f
-          (media-accepted w (O .based) (f .present) (f .used) s g (tests ∙ media-free (not (ltb i (w .n))) (not (lost s i)) alike out (ap not e)))
-      go (inr e) = rw (media-refused x g s (λ z. media-taken (not (ltb i (w .n))) (not (lost s i)) alike out (ap not e) (sym tests ∙ z)))
-          (pass (mediaSeen w g) key (refresh f) (miss-lost w s i h ∙ e))
+          (media-accepted w (O .based) (f .present) (f .used) s g (tests ∙ media-free (not (ltb i (w .n))) (not (isMissing (s .marks) i)) alike out (ap not e)))
+      go (inr e) = rw (media-refused x g s (λ z. media-taken (not (ltb i (w .n))) (not (isMissing (s .marks) i)) alike out (ap not e) (sym tests ∙ z)))
+          (pass (mediaSeen w g) key (refresh f) (miss-mark w s i h ∙ e))
 
   -- a parity datagram without a fault, of a group of the window that is in D, keeps the invariant: there is a record for it
   pub fine-parity : {v : Window} {s : Store} (stream : ℕ) → stream ≤ 1 → (g : List ℕ) → None (parityTests stream (w .l) (w .d) (w .p) g) → inside w stream (snbase g) ≡ true
@@ -159,19 +161,19 @@ module _ {w : Window} (O : Opened w) {D : List (ℕ × ℕ)} (room : length D �
       alike = any (holdsSame x s stream g) (upTo (w .k))
 
       full : Bool
-      full = ltb 1 (length (missing s (group w stream (snbase g)))) && not (ltb (f .used) (w .k))
+      full = leb leastMissing (length (missing (s .marks) (group w stream (snbase g)))) && not (ltb (f .used) (w .k))
 
-      -- a record in use has a key in D
-      in-list : (r : ℕ) → r < w .k → inUse s r ≡ true → List·Memᴰ (streamAt s r, snbaseAt s r) D
-      in-list r l e = f .keyed _ _ (f .inv .kept _ _ (record { at = r; below = l; used = e; stream = refl; start = refl; value = refl }))
+      -- the check that a record in use names is in D
+      in-list : (r : ℕ) → r < w .k → inUse s r ≡ true → List·Memᴰ (checkAt s r) D
+      in-list r l e = f .keyed _ _ (f .inv .kept _ _ (record { at = r; below = l; used = e; names = refl; value = refl }))
 
       -- not in hand: there is a free record
       free : any in-hand (upTo (w .k)) ≡ false → f .used < w .k
       free e =
           let o : Out (stream, snbase g) D = take-out m in
-          let z = pigeon {A = ℕ × ℕ} (λ r. (streamAt s r, snbaseAt s r)) (inUse s) (w .k) (o .rest)
-          (λ r l i. o .others (streamAt s r, snbaseAt s r) (λ q. true≢false (sym (is-holder s stream (snbase g) r i (ap (λ (k : ℕ × ℕ). k .0) q) (ap (λ (k : ℕ × ℕ). k .1) q)) ∙ any-false in-hand (w .k) e r l)) (in-list r l i))
-          (λ q r hq hr eq er k. f .order .good .apart q r hq hr eq er (ap (λ (k : ℕ × ℕ). k .0) k) (ap (λ (k : ℕ × ℕ). k .1) k)) in
+          let z = pigeon (checkAt s) (inUse s) (w .k) (o .rest)
+          (λ r l i. o .others (checkAt s r) (λ q. true≢false (sym (is-holder s (stream, snbase g) r i q) ∙ any-false in-hand (w .k) e r l)) (in-list r l i))
+          (f .order .good .apart) in
           omega (arith, f .order .good .in-use, o .shorter)
 
       unlike : any in-hand (upTo (w .k)) ≡ false → any (holdsSame x s stream g) (upTo (w .k)) ≡ false
@@ -181,18 +183,12 @@ module _ {w : Window} (O : Opened w) {D : List (ℕ × ℕ)} (room : length D �
       holder : any in-hand (upTo (w .k)) ≡ true → (y : Packet) × Held w s (stream, snbase g) y
       holder e =
           let r = any-some in-hand (upTo (w .k)) e in
-          let b = both (inUse s (r .0)) (eqb (streamAt s (r .0)) stream && eqb (snbaseAt s (r .0)) (snbase g)) (r .2) in
-          let c = both (eqb (streamAt s (r .0)) stream) (eqb (snbaseAt s (r .0)) (snbase g)) (b .1) in (
-            recordAt w s (r .0),
-            record {
-              at = r .0;
-              below = upTo-lt (w .k) (r .0) (r .1);
-              used = b .0;
-              stream = eqb-true (streamAt s (r .0)) stream (c .0);
-              start = eqb-true (snbaseAt s (r .0)) (snbase g) (c .1);
-              value = refl;
-            },
-          )
+          let v = recordAt s (r .0) in
+          let b = both (inUse s (r .0)) (eqb (v .stream) stream && eqb (v .snbase) (snbase g)) (r .2) in
+          let c = both (eqb (v .stream) stream) (eqb (v .snbase) (snbase g)) (b .1) in
+          let d = eqb-true (v .stream) stream (c .0) in
+          let e = eqb-true (v .snbase) (snbase g) (c .1) in
+          (packetOf (recoveryAt w s (r .0)), record { at = r .0; below = upTo-lt (w .k) (r .0) (r .1); used = b .0; names = λ j. (d j, e j); value = refl })
 
       go : (any in-hand (upTo (w .k)) ≡ true) ⊎ (any in-hand (upTo (w .k)) ≡ false)
           → Fine w D (os ++ (paritySeen stream g ∷ [])) (offeredParity stream x g s .window) (offeredParity stream x g s .store)
@@ -200,17 +196,19 @@ module _ {w : Window} (O : Opened w) {D : List (ℕ × ℕ)} (room : length D �
           (pass (paritySeen stream g) key (refresh f) (inl (holder e)))
       go (inr e) = accept (paritySeen stream g) key f (parity-accepted w (O .based) (f .present) (f .used) s g stream hs
           (tests ∙ parity-free (not (inside w stream (snbase g))) alike (any in-hand (upTo (w .k))) full (ap not h) (unlike e) e
-          (rw (lt-ltb (f .used) (w .k) (free e)) (and-false (ltb 1 (length (missing s (group w stream (snbase g)))))))))
+          (rw (lt-ltb (f .used) (w .k) (free e)) (and-false (leb leastMissing (length (missing (s .marks) (group w stream (snbase g)))))))))
 
 -- ---- the start
 
--- a part that was set to zero
-zeroed-at : (n : ℕ) (l : List ℕ) (i : ℕ) → i < n → getD (zeroed n l) i 0 ≡ 0
-zeroed-at n l i h = List·getD-append (replicate n 0) (drop n l) 0 i (rw length-replicate h) ∙ getD-replicate n i 0 0 h
+-- a part whose first n elements were set to x
+module _ {A : Type 0} (n : ℕ) (x : A) (l : List A) where
+  -- has x there
+  front-at : (i : ℕ) → i < n → getD (replicate n x ++ drop n l) i x ≡ x
+  front-at i h = List·getD-append (replicate n x) (drop n l) x i (rw length-replicate h) ∙ getD-replicate n i x x h
 
--- is as long as it has to be
-zeroed-long : (n : ℕ) (l : List ℕ) → n ≤ length (zeroed n l)
-zeroed-long n l = omega (arith, length-append (replicate n 0) (drop n l), length-replicate {A = ℕ} n 0)
+  -- and is as long as it has to be
+  front-long : n ≤ length (replicate n x ++ drop n l)
+  front-long = omega (arith, length-append (replicate n x) (drop n l), length-replicate n x)
 
 -- a freshly opened window: every position missing, no check in hand, nothing offered
 pub fine-start : (w : Window) (D : List (ℕ × ℕ)) (s : Store) → w .present ≡ 0 → w .«in_use» ≡ 0 → Fine w D [] w (cleared w s)
@@ -221,34 +219,31 @@ fine-start w D s a u = record {
   order = record {
     good = record {
       fits = record {
-        media-long = zeroed-long (w .n * w .p) (s .media);
-        timestamps-long = zeroed-long (w .n) (s .timestamps);
-        marks-long = zeroed-long (w .n) (s .marks);
-        parity-long = zeroed-long (w .k * w .p) (s .parity);
-        streams-long = zeroed-long (w .k) (s .streams);
-        snbases-long = zeroed-long (w .k) (s .snbases);
-        recoveries-long = zeroed-long (w .k) (s .recoveries);
-        uses-long = zeroed-long (w .k) (s .uses);
+        media-long = front-long (w .n * w .p) 0 (s .media);
+        timestamps-long = front-long (w .n) 0 (s .timestamps);
+        marks-long = front-long (w .n) 0 (s .marks);
+        parity-long = front-long (w .k * w .p) 0 (s .parity);
+        records-long = front-long (w .k) blank (s .records);
       };
-      mark = λ i h. omega (arith, zeroed-at (w .n) (s .marks) i h);
-      use-mark = λ r h. omega (arith, zeroed-at (w .k) (s .uses) r h);
+      mark = λ i h. omega (arith, front-at (w .n) 0 (s .marks) i h);
+      use-mark = λ r h. rw (front-at (w .k) blank (s .records) r h) (omega arith);
       shaped = λ r h e. absurd (true≢false (sym e ∙ unused r h));
-      apart = λ q r hq hr eq er b c. absurd (true≢false (sym eq ∙ unused q hq));
-      presents = a ∙ sym (count-zero (here (cleared w s)) (upTo (w .n)) (λ i m. absent i (upTo-lt (w .n) i m)));
+      apart = λ q r hq hr eq er e. absurd (true≢false (sym eq ∙ unused q hq));
+      presents = a ∙ sym (count-zero (isPresent (cleared w s .marks)) (upTo (w .n)) (λ i m. absent i (upTo-lt (w .n) i m)));
       in-use = u ∙ sym (count-zero (inUse (cleared w s)) (upTo (w .k)) (λ r m. unused r (upTo-lt (w .k) r m)));
     };
-    waits = record { lacks = λ r h e. absurd (true≢false (sym e ∙ unused r h)) };
+    waits = record { least = λ r h e. absurd (true≢false (sym e ∙ unused r h)) };
   };
-  inv = inv-start (groupOf w) xored blank (view w (cleared w s)) (λ i. empty i (decLt i (w .n))) (λ k x h. true≢false (sym (h .used) ∙ unused (h .at) (h .below)));
+  inv = inv-start (groupOf w) xored zeros (view w (cleared w s)) (λ i. empty i (decLt i (w .n))) (λ k x h. true≢false (sym (h .used) ∙ unused (h .at) (h .below)));
   keyed = λ k x m. absurd (List·Memᴰ·not-nil m);
 }
   where
     unused : (r : ℕ) → r < w .k → inUse (cleared w s) r ≡ false
-    unused r h = rw (zeroed-at (w .k) (s .uses) r h)
+    unused r h = rw (front-at (w .k) blank (s .records) r h)
 
-    absent : (i : ℕ) → i < w .n → here (cleared w s) i ≡ false
-    absent i h = rw (zeroed-at (w .n) (s .marks) i h)
+    absent : (i : ℕ) → i < w .n → isPresent (cleared w s .marks) i ≡ false
+    absent i h = rw (front-at (w .n) 0 (s .marks) i h)
 
     empty : (i : ℕ) → Dec (i < w .n) → slotAt w (cleared w s) i ≡ none
-    empty i (yes h) = slot-lost w (cleared w s) i (rw (zeroed-at (w .n) (s .marks) i h))
+    empty i (yes h) = slot-missing w (cleared w s) i (rw (front-at (w .n) 0 (s .marks) i h))
     empty i (no h) = slot-out w (cleared w s) i (omega arith)

@@ -1,5 +1,7 @@
-pub mod Bench
 pub mod Demand3
+pub mod Arrangement
+pub mod Bench
+pub mod Zero
 pub mod Ranges
 pub mod Packets
 pub mod View

@@ -1,6 +1,6 @@
--- The customer's night, as an instance of demand 3: a column that runs across the wrap of the sequence counter rebuilds the packet lost.
+-- The customer's night, as an instance of demand 3: a column that runs across the wrap of the sequence counter rebuilds the packet that is missing.
 use mathlib.Core.Path.{_≡_, refl}
-use mathlib.Core.Logic.{_⊎_, ⊎-elim}
+use mathlib.Core.Logic.{⊎-elim}
 use mathlib.Core.Bool.{Bool, true, false}
 use mathlib.Core.List.{List, [], _∷_, map, List·Memᴰ, List·Memᴰ·head, List·Memᴰ·tail, List·Memᴰ·not-nil}
 use Prim.Native.Nat.{ℕ, zero, suc, _*_, _<_}
@@ -9,11 +9,13 @@ use lib.ListN.{replicate, length-replicate}
 use Rattle.answer.specs.First.{first}
 use Rattle.rtp.specs.Fec.{column}
 use Rattle.window.specs.declared.Window.{Window}
+use Rattle.window.specs.Limits.{width}
 use Rattle.window.specs.Store.{Store, timestampAt}
 use Rattle.window.specs.Group.{group}
 use Rattle.sequence.specs.Wrap.{numberAt}
 use Rattle.calls.specs.Datagram.{mediaPacket, Outer, parityPacket}
 use Rattle.calls.specs.Call.{asked, opened}
+use Rattle.guarantee.specs.Bench.{unclearedStore}
 use Rattle.guarantee.specs.Demand3.{mediaPort, columnPort, Offer, run, Stretch, Unaltered, Received, mediaName, Given, markAt, Hidden, Demand3, different}
 use Rattle.guarantee.specs.Ranges.{decide}
 use Rattle.guarantee.specs.Theorem.{demand3}
@@ -24,16 +26,7 @@ window = asked 65530 0 4 4 188 16 1
 
 -- a store of just the size that is needed, full of sevens
 abbrev pub lent : Store
-lent = record {
-  media = replicate 3008 7;
-  timestamps = replicate 16 7;
-  marks = replicate 16 7;
-  parity = replicate 188 7;
-  streams = replicate 1 7;
-  snbases = replicate 1 7;
-  recoveries = replicate 1 7;
-  uses = replicate 1 7;
-}
+lent = unclearedStore window
 
 -- zeros are bytes
 all-zero : (n b : ℕ) → List·Memᴰ b (replicate n 0) → b < 256
@@ -44,9 +37,9 @@ all-zero (suc n) b (List·Memᴰ·tail m) = all-zero n b m
 -- timestamps 0, 1,000, 2,000 and so on, and payloads of zeros
 stretch : Stretch window
 stretch = record {
-  stamp = λ i. 1000 * i;
+  timestamp = λ i. 1000 * i;
   payload = λ i. replicate 188 0;
-  stamp-fits = λ i h. omega arith;
+  timestamp-fits = λ i h. omega arith;
   size = λ i h. length-replicate {A = ℕ} 188 0;
   bytes = λ i h b m. all-zero 188 b m;
 }
@@ -57,7 +50,7 @@ outer = record { sequence = 7; timestamp = 0; ssrc = 0 }
 
 -- the media packet of a position
 media : ℕ → Offer
-media i = record { port = mediaPort; datagram = mediaPacket (numberAt 16 65530 i) (1000 * i) 0 (replicate 188 0) }
+media i = record { port = mediaPort; datagram = mediaPacket (numberAt width 65530 i) (1000 * i) 0 (replicate 188 0) }
 
 -- the column of positions 0, 4, 8, 12: numbers 65,530, 65,534, 2, 6
 parity : Offer
@@ -75,7 +68,7 @@ media-unaltered i h = record { place = i; ssrc = 0; in-window = h; ssrc-fits = o
 -- and so is the column
 parity-unaltered : Unaltered window stretch parity
 unfolding stretch parity outer
-parity-unaltered = record { start = 65530; outer = outer; start-fits = omega arith; sequence-fits = omega arith; timestamp-fits = omega arith; ssrc-fits = omega arith; permitted = refl; in-window = refl; is = refl }
+parity-unaltered = record { snbase = 65530; outer = outer; snbase-fits = omega arith; sequence-fits = omega arith; timestamp-fits = omega arith; ssrc-fits = omega arith; permitted = refl; in-window = refl; is = refl }
 
 -- so what demand 3 asks is given
 given : Given window lent stretch offers
@@ -109,7 +102,7 @@ rebuilt = (there, after .present 12 (omega arith) there .0)
     alone : (S : ℕ → Bool) → Hidden window offers S → S 12 ≡ true → ⊥
     alone S h e = h .never-one column 65530 (List·Memᴰ·tail (List·Memᴰ·head refl)) (rw (out 0 (List·Memᴰ·head refl), out 4 (List·Memᴰ·tail (List·Memᴰ·tail (List·Memᴰ·tail (List·Memᴰ·head refl)))), out 8 (List·Memᴰ·tail (List·Memᴰ·tail (List·Memᴰ·head refl))), e))
       where
-        out : (i : ℕ) → Received offers (mediaName (numberAt 16 65530 i)) → S i ≡ false
+        out : (i : ℕ) → Received offers (mediaName (numberAt width 65530 i)) → S i ≡ false
         out i m = ⊎-elim (λ q. absurd (h .unreceived i q m)) (λ q. q) (decide (S i))
 
     there : markAt s 12 ≡ 1

@@ -1,39 +1,39 @@
--- The offers (receiver's Call.antt): what an accepted one leaves, and that none without a fault of refusals 6 to 13 is lost.
-use mathlib.Core.Path.{_≡_, refl, sym, _∙_}
-use mathlib.Core.Logic.{_≢_}
+-- The offers (calls' Call.antt): what an accepted one leaves.
+use mathlib.Core.Path.{_≡_, refl, sym, ap, _∙_}
 use mathlib.Core.Bool.{Bool, true, false, not, cond, _&&_, _||_, true≢false, false≢true}
 use mathlib.Core.List.{List, [], _∷_, _++_}
-use Prim.Native.Nat.{ℕ, _+_, _-_, _^_, _<_, _≤_}
+use Prim.Native.Nat.{ℕ, _-_, _^_, _<_, _≤_}
 use native.Mathlib.Omega.{arith}
 use lib.ListN.{length, drop, length-drop}
-use lib.Dec.{eqb, ltb}
-use borrow.Author.Tests.{eqb-true, eq-eqb, ltb-true, lt-ltb, not-false}
+use lib.Dec.{eqb, leb, ltb}
+use borrow.Author.Tests.{eqb-true, eq-eqb, ltb-true, le-leb, not-false}
 use Rattle.answer.specs.declared.Answer.the-variants.{Done, Refused}
 use Rattle.answer.specs.First.{first, None, first-none}
-use Rattle.rtp.specs.Rtp.{sequenceNumber, timestamp}
-use Rattle.rtp.specs.Fec.{snbase, dBit, offset, na, offsetOf, naOf}
+use Rattle.rtp.specs.Rtp.{rtpHeaderSize, sequenceNumber}
+use Rattle.rtp.specs.Fec.{parityHeaderSize, snbase, dBit, offset, na, offsetOf, naOf}
 use Rattle.rtp.specs.Faults.{noRow, mediaTests, parityTests}
 use Rattle.sequence.specs.Lists.{or-split, any-false}
 use Rattle.window.specs.declared.Window.{Window}
-use Rattle.window.specs.Store.{Store, streamAt, snbaseAt}
+use Rattle.window.specs.Limits.{width, leastMissing}
+use Rattle.window.specs.Store.{Store, recordAt}
 use Rattle.window.specs.Group.{position, group, inside, missing}
 use Rattle.window.specs.Order.{inUse}
-use Rattle.settle.specs.State.{recount}
-use Rattle.calls.specs.Accept.{mediaPayload, recoveryOf}
-use Rattle.calls.specs.Call.{Outcome, standingTests, mediaPlaceTests, mediaOfferTests, holds, parityPlaceTests, parityOfferTests, start, offeredMedia, offeredParity}
+use Rattle.calls.specs.State.{recount}
+use Rattle.calls.specs.Accept.{contentOf, recoveryOf}
+use Rattle.calls.specs.Call.{Outcome, standingTests, mediaPlaceTests, mediaOfferTests, holds, parityPlaceTests, parityOfferTests, offeredMedia, offeredParity}
 use Rattle.peel.specs.Peel.{Offer, media, check}
 use Rattle.guarantee.specs.Packets.{Packet, packetOf}
-use Rattle.guarantee.specs.Moves.{valueOf}
+use Rattle.guarantee.specs.View.{checkAt}
 use Rattle.guarantee.specs.Order.{limits, standing}
 use Rattle.guarantee.specs.Accepted.{take-media, take-parity, Settled, settles}
 
--- a datagram as the theory sees it: media at its position, or the check of its group
+-- a media datagram as the theory sees it: a packet at its position
 abbrev pub mediaSeen : Window → List ℕ → Offer (ℕ × ℕ) Packet
-mediaSeen w g = media (position w (sequenceNumber g)) (packetOf (timestamp g) (mediaPayload g))
+mediaSeen w g = media (position w (sequenceNumber g)) (packetOf (contentOf g))
 
--- the check of its group
+-- a parity datagram: the check of its group
 abbrev pub paritySeen : (stream : ℕ) → List ℕ → Offer (ℕ × ℕ) Packet
-paritySeen stream g = check (stream, snbase g) (valueOf (recoveryOf g))
+paritySeen stream g = check (stream, snbase g) (packetOf (recoveryOf g))
 
 -- ---- tests
 
@@ -65,12 +65,12 @@ done-first ts x y k c r e = go (eqb (first ts) 0) refl e
     go false q h = absurd (let z : _≡_ {A = ℕ} 0 1 = cc in omega arith)
 
 -- a record in use of that stream and SNBase holds the group
-pub is-holder : (s : Store) (stream start q : ℕ) → inUse s q ≡ true → streamAt s q ≡ stream → snbaseAt s q ≡ start → holds s stream start q ≡ true
-is-holder s stream start q i b c = rw (i, eq-eqb (streamAt s q) stream b, eq-eqb (snbaseAt s q) start c)
+pub is-holder : (s : Store) (k : ℕ × ℕ) (q : ℕ) → inUse s q ≡ true → checkAt s q ≡ k → holds s (k .0) (k .1) q ≡ true
+is-holder s k q i e = rw (i, eq-eqb (recordAt s q .stream) (k .0) (ap (λ (j : ℕ × ℕ). j .0) e), eq-eqb (recordAt s q .snbase) (k .1) (ap (λ (j : ℕ × ℕ). j .1) e))
 
 -- ---- accepted offers
 
-module _ (w : Window) (based : w .base < 2 ^ 16) (a u : ℕ) (s : Store) (g : List ℕ) where
+module _ (w : Window) (based : w .base < 2 ^ width) (a u : ℕ) (s : Store) (g : List ℕ) where
   -- a media offer that no refusal applies to is taken in and settled
   pub media-accepted : first (mediaOfferTests (recount w a u) g s) ≡ 0 → Settled w a s (mediaSeen w g) 1 (offeredMedia (recount w a u) g s)
   unfolding offeredMedia
@@ -81,8 +81,8 @@ module _ (w : Window) (based : w .base < 2 ^ 16) (a u : ℕ) (s : Store) (g : Li
       let stand = split′ .0 in
       let o = standing w a u s stand in
       let L = limits w based (stand .0, (stand .1 .0, (stand .1 .1 .0, tt))) in
-      let size = payload-size 12 (w .p) g (split′ .1 .0) (split′ .1 .1 .1 .1 .0) in
-      rw e (settles (take-media L (o .good) (o .waits) (position w (sequenceNumber g)) (timestamp g) (mediaPayload g)
+      let size = payload-size rtpHeaderSize (w .p) g (split′ .1 .0) (split′ .1 .1 .1 .1 .0) in
+      rw e (settles (take-media L (o .good) (o .waits) (position w (sequenceNumber g)) (contentOf g)
       (ltb-true (position w (sequenceNumber g)) (w .n) (not-false _ (split .1 .0))) (not-false _ (split .1 .1 .1 .0)) size))
 
   -- a parity offer that no refusal applies to is taken in and settled
@@ -95,9 +95,9 @@ module _ (w : Window) (based : w .base < 2 ^ 16) (a u : ℕ) (s : Store) (g : Li
       let stand = split′ .0 in
       let o = standing w a u s stand in
       let L = limits w based (stand .0, (stand .1 .0, (stand .1 .1 .0, tt))) in
-      let size = payload-size 28 (w .p) g (split′ .1 .0) (split′ .1 .1 .1 .1 .0) in
+      let size = payload-size parityHeaderSize (w .p) g (split′ .1 .0) (split′ .1 .1 .1 .1 .0) in
       let rows = or-split (not (eqb (dBit g) stream) || not (eqb (offset g) (offsetOf stream (w .l))) || not (eqb (na g) (naOf stream (w .l) (w .d)))) (noRow stream (w .l)) (split′ .1 .1 .1 .1 .1 .1 .1 .0) .1 in
       rw e (settles (take-parity L (o .good) (o .waits) stream (snbase g) (recoveryOf g)
       (record { known = hs; rows = rows; within = not-false (inside w stream (snbase g)) (split .1 .0) }) size
-      (λ q h i b c. true≢false (sym (is-holder s stream (snbase g) q i b c) ∙ any-false (holds s stream (snbase g)) (w .k) (split .1 .1 .1 .0) q h))
-      (λ m. ltb-true u (w .k) (not-false (ltb u (w .k)) (not-both (ltb 1 (length (missing s (group w stream (snbase g))))) (not (ltb u (w .k))) (split .1 .1 .1 .1 .0) (lt-ltb 1 _ m))))))
+      (λ q h i e. true≢false (sym (is-holder s (stream, snbase g) q i e) ∙ any-false (holds s stream (snbase g)) (w .k) (split .1 .1 .1 .0) q h))
+      (λ m. ltb-true u (w .k) (not-false (ltb u (w .k)) (not-both (leb leastMissing (length (missing (s .marks) (group w stream (snbase g))))) (not (ltb u (w .k))) (split .1 .1 .1 .1 .0) (le-leb leastMissing _ m))))))

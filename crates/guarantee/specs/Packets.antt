@@ -9,34 +9,35 @@ use native.Mathlib.Omega.{arith}
 use lib.ListN.{length, getD, take, drop, replicate, length-drop, length-replicate}
 use lib.Seq.{paste, ext-getD, take-at, drop-at, take-take, take-all, drop-drop, length-take-le, drop-paste, take-nil}
 use lib.Bits.{bitXor}
-use Rattle.xor.specs.Xor.{zipXor, xorAll, length-zip}
-use Rattle.xor.specs.Xor.{xorPayloads}
+use Rattle.xor.specs.Xor.{zipXor, xorAll, xorPayloads, length-zip}
 use Rattle.peel.specs.Group.{total}
+use Rattle.window.specs.Store.{payloadIn}
+use Rattle.calls.specs.Content.{Content}
 
 -- a packet: its timestamp, then its bytes
 abbrev pub Packet : Type 0
 Packet = ℕ → ℕ
 
--- the exclusive-or of two packets, place by place, and the packet of zeros
+-- the exclusive-or of two packets, place by place
 abbrev pub xored : Packet → Packet → Packet
 xored = λ (x y : ℕ → ℕ) (n : ℕ). bitXor (x n) (y n)
 
 -- the packet of zeros
-abbrev pub blank : Packet
-blank = λ n. 0
+abbrev pub zeros : Packet
+zeros = λ n. 0
 
--- the packet of a timestamp and a payload
-abbrev pub packetOf : ℕ → List ℕ → Packet
-packetOf stamp payload zero = stamp
-packetOf stamp payload (suc j) = getD payload j 0
+-- the packet of a content
+abbrev pub packetOf : Content → Packet
+packetOf c zero = c .timestamp
+packetOf c (suc j) = getD (c .payload) j 0
 
--- two packets of payloads of one length are one only if timestamp and payload are
-pub packet-stamp : (s t : ℕ) (a b : List ℕ) → packetOf s a ≡ packetOf t b → s ≡ t
-packet-stamp s t a b e = ap (λ (x : Packet). x zero) e
+-- two packets are one only if their timestamps are
+pub packet-timestamp : (c e : Content) → packetOf c ≡ packetOf e → c .timestamp ≡ e .timestamp
+packet-timestamp c e q = ap (λ (x : Packet). x zero) q
 
--- and payload
-pub packet-payload : (s t : ℕ) (a b : List ℕ) → length a ≡ length b → packetOf s a ≡ packetOf t b → a ≡ b
-packet-payload s t a b l e = ext-getD 0 a b l (λ j h. ap (λ (x : Packet). x (suc j)) e)
+-- and their payloads, where these are of one length
+pub packet-payload : (c e : Content) → length (c .payload) ≡ length (e .payload) → packetOf c ≡ packetOf e → c .payload ≡ e .payload
+packet-payload c e l q = ext-getD 0 (c .payload) (e .payload) l (λ j h. ap (λ (x : Packet). x (suc j)) q)
 
 -- a byte of an exclusive-or of payloads of one length, also past the end
 byte-zip : (a b : List ℕ) → length a ≡ length b → (j : ℕ) → getD (zipXor a b) j 0 ≡ bitXor (getD a j 0) (getD b j 0)
@@ -46,13 +47,17 @@ byte-zip (x ∷ a) [] l j = absurd (omega (arith, l))
 byte-zip (x ∷ a) (y ∷ b) l zero = refl
 byte-zip (x ∷ a) (y ∷ b) l (suc j) = byte-zip a b (omega (arith, l)) j
 
--- the exclusive-or of two packets is that of their timestamps and payloads
-pub packet-xor : (s t : ℕ) (a b : List ℕ) → length a ≡ length b → packetOf (bitXor s t) (zipXor a b) ≡ xored (packetOf s a) (packetOf t b)
-packet-xor s t a b l = fun-ext at
+-- the exclusive-or of two contents
+abbrev pub xorContent : Content → Content → Content
+xorContent c e = record { timestamp = bitXor (c .timestamp) (e .timestamp); payload = zipXor (c .payload) (e .payload) }
+
+-- its packet is the exclusive-or of their packets
+pub packet-xor : (c e : Content) → length (c .payload) ≡ length (e .payload) → packetOf (xorContent c e) ≡ xored (packetOf c) (packetOf e)
+packet-xor c e l = fun-ext at
   where
-    at : (j : ℕ) → packetOf (bitXor s t) (zipXor a b) j ≡ bitXor (packetOf s a j) (packetOf t b j)
+    at : (j : ℕ) → packetOf (xorContent c e) j ≡ bitXor (packetOf c j) (packetOf e j)
     at zero = refl
-    at (suc j) = byte-zip a b l j
+    at (suc j) = byte-zip (c .payload) (e .payload) l j
 
 -- a byte of zeros, also past the end
 byte-zeros : (p j : ℕ) → _≡_ {A = ℕ} (getD (replicate p 0) j 0) 0
@@ -60,31 +65,31 @@ byte-zeros zero j = refl
 byte-zeros (suc p) zero = refl
 byte-zeros (suc p) (suc j) = byte-zeros p j
 
--- the packet of zeros is blank
-packet-blank : (p : ℕ) → packetOf 0 (replicate p 0) ≡ blank
-packet-blank p = fun-ext at
-  where
-    at : (j : ℕ) → _≡_ {A = ℕ} (packetOf 0 (replicate p 0) j) 0
-    at zero = refl
-    at (suc j) = byte-zeros p j
+-- the exclusive-or of the contents of a group
+abbrev pub xorContents : (p : ℕ) (content : ℕ → Content) → List ℕ → Content
+xorContents p content g = record { timestamp = xorAll (map (λ j. content j .timestamp) g); payload = xorPayloads p (map (λ j. content j .payload) g) }
 
-module _ (p : ℕ) (stamp : ℕ → ℕ) (payload : ℕ → List ℕ) where
+module _ (p : ℕ) (content : ℕ → Content) where
   -- the exclusive-or of payloads of p bytes has p bytes
-  pub length-payloads : (g : List ℕ) → ((j : ℕ) → List·Memᴰ j g → length (payload j) ≡ p) → length (xorPayloads p (map payload g)) ≡ p
+  pub length-payloads : (g : List ℕ) → ((j : ℕ) → List·Memᴰ j g → length (content j .payload) ≡ p) → length (xorContents p content g .payload) ≡ p
   length-payloads [] h = length-replicate p 0
   length-payloads (j ∷ g) h =
       let r = length-payloads g (λ i m. h i (List·Memᴰ·tail m)) in
       let e = h j (List·Memᴰ·head refl) in
-      length-zip (payload j) (xorPayloads p (map payload g)) (e ∙ sym r) ∙ e
+      length-zip (content j .payload) (xorContents p content g .payload) (e ∙ sym r) ∙ e
 
   -- the exclusive-or over a group is the theory's
-  pub packet-total : (g : List ℕ) → ((j : ℕ) → List·Memᴰ j g → length (payload j) ≡ p)
-      → packetOf (xorAll (map stamp g)) (xorPayloads p (map payload g)) ≡ total xored blank (λ j. packetOf (stamp j) (payload j)) g
-  packet-total [] h = packet-blank p
+  pub packet-total : (g : List ℕ) → ((j : ℕ) → List·Memᴰ j g → length (content j .payload) ≡ p)
+      → packetOf (xorContents p content g) ≡ total xored zeros (λ j. packetOf (content j)) g
+  packet-total [] h = fun-ext at
+    where
+      at : (j : ℕ) → _≡_ {A = ℕ} (packetOf (xorContents p content []) j) 0
+      at zero = refl
+      at (suc j) = byte-zeros p j
   packet-total (j ∷ g) h =
-      let rest : (i : ℕ) → List·Memᴰ i g → length (payload i) ≡ p = λ i m. h i (List·Memᴰ·tail m) in
-      packet-xor (stamp j) (xorAll (map stamp g)) (payload j) (xorPayloads p (map payload g)) (h j (List·Memᴰ·head refl) ∙ sym (length-payloads g rest))
-      ∙ ap (λ t. xored (packetOf (stamp j) (payload j)) t) (packet-total g rest)
+      let rest : (i : ℕ) → List·Memᴰ i g → length (content i .payload) ≡ p = λ i m. h i (List·Memᴰ·tail m) in
+      packet-xor (content j) (xorContents p content g) (h j (List·Memᴰ·head refl) ∙ sym (length-payloads g rest))
+      ∙ ap (xored (packetOf (content j))) (packet-total g rest)
 
 -- ---- parts of p elements, one after the other
 
@@ -100,16 +105,16 @@ take-drop (suc at) m (x ∷ l) = rw suc-add (take-drop at m l)
 
 module _ (d : List ℕ) (i p : ℕ) (s : List ℕ) (hd : i * p + p ≤ length d) (hs : length s ≡ p) where
   -- after a part is written, it is what was written
-  pub part-same : take p (drop (i * p) (paste d (i * p) s p)) ≡ s
+  pub part-same : payloadIn p (paste d (i * p) s p) i ≡ s
   part-same =
       let all : take p s ≡ s = take-all p s (omega arith) in
       rw append-assoc (rw (drop-at (take (i * p) d) (take p s ++ drop (i * p + p) d) (i * p) (length-take-le (i * p) d (omega arith)), all) (take-at s (drop (i * p + p) d) p hs))
 
   -- and the other parts are as they were
-  pub part-other : (j : ℕ) → j ≢ i → take p (drop (j * p) (paste d (i * p) s p)) ≡ take p (drop (j * p) d)
+  pub part-other : (j : ℕ) → j ≢ i → payloadIn p (paste d (i * p) s p) j ≡ payloadIn p d j
   part-other j n = go (decLt j i)
     where
-      go : Dec (j < i) → take p (drop (j * p) (paste d (i * p) s p)) ≡ take p (drop (j * p) d)
+      go : Dec (j < i) → payloadIn p (paste d (i * p) s p) j ≡ payloadIn p d j
       go (yes h) =
           let z = part-fits j i p h in
           let front : take (i * p) (paste d (i * p) s p) ≡ take (i * p) d = rw append-assoc (take-at (take (i * p) d) (take p s ++ drop (i * p + p) d) (i * p) (length-take-le (i * p) d (omega arith))) in
@@ -122,6 +127,6 @@ module _ (d : List ℕ) (i p : ℕ) (s : List ℕ) (hd : i * p + p ≤ length d)
           let split : (l : List ℕ) → drop (j * p) l ≡ drop (j * p - (i * p + p)) (drop (i * p + p) l) = λ l. sym (drop-drop (j * p - (i * p + p)) (i * p + p) l ∙ ap (λ k. drop k l) e) in
           ap (take p) (split (paste d (i * p) s p) ∙ ap (drop (j * p - (i * p + p))) (drop-paste d (i * p) s p (omega arith) (omega arith)) ∙ sym (split d))
 
--- a part of a list that has it is p long
-pub length-part : (l : List ℕ) (i p : ℕ) → i * p + p ≤ length l → length (take p (drop (i * p) l)) ≡ p
-length-part l i p h = length-take-le p (drop (i * p) l) (simp length-drop (omega arith))
+-- a part i below n of a list that has n parts is p long
+pub length-part : (l : List ℕ) (i n p : ℕ) → i < n → n * p ≤ length l → length (payloadIn p l i) ≡ p
+length-part l i n p h e = let z = part-fits i n p h in length-take-le p (drop (i * p) l) (simp length-drop (omega arith))

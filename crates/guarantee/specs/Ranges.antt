@@ -2,14 +2,14 @@
 use mathlib.Core.Path.{_≡_, refl, sym, ap, _∙_}
 use mathlib.Core.Logic.{_≢_, _⊎_, inl, inr, ⊎-elim}
 use mathlib.Core.Bool.{Bool, true, false, not, cond, _||_, true≢false, false≢true}
-use mathlib.Core.List.{List, [], _∷_, _++_, List·Memᴰ, List·Memᴰ·head, List·Memᴰ·tail, List·Memᴰ·not-nil, List·Memᴰ·cases-cons, Memᴰ·append-left, Memᴰ·append-right, List·Memᴰ·append-cases, List·Memᴰ·eq-of-singleton}
+use mathlib.Core.List.{List, [], _∷_, _++_, List·Memᴰ, List·Memᴰ·head, List·Memᴰ·tail, List·Memᴰ·not-nil, List·Memᴰ·cases-cons, List·Memᴰ·append-cases, List·Memᴰ·eq-of-singleton}
 use Prim.Native.Nat.{ℕ, zero, suc, _+_, _<_, _≤_}
 use native.Mathlib.Decide.{ℕ-discrete}
-use borrow.Author.Tests.{eq-eqb}
 use native.Mathlib.Omega.{arith}
+use borrow.Author.Tests.{eq-eqb}
 use lib.ListN.{length}
 use lib.Dec.{eqb}
-use Rattle.sequence.specs.Lists.{or-split, upTo, all, any, keep, count, headOr}
+use Rattle.sequence.specs.Lists.{upTo, all, any, keep, count, headOr, count-append}
 use Rattle.sequence.specs.Lists.{and-split as both}
 use Rattle.peel.specs.Group as Peel
 
@@ -22,16 +22,7 @@ decide false = inr refl
 
 -- ---- membership
 
--- the numbers below n are in the list
-pub mem-upTo : (n i : ℕ) → i < n → List·Memᴰ i (upTo n)
-mem-upTo zero i h = absurd (omega arith)
-mem-upTo (suc n) i h = go (ℕ-discrete i n) (mem-upTo n i)
-  where
-    go : Dec (i ≡ n) → (i < n → List·Memᴰ i (upTo n)) → List·Memᴰ i (upTo n ++ (n ∷ []))
-    go (yes e) ih = Memᴰ·append-right (upTo n) (List·Memᴰ·head e)
-    go (no e) ih = Memᴰ·append-left (n ∷ []) (ih (omega arith))
-
--- and no others
+-- the elements of upTo n are below n
 pub upTo-lt : (n i : ℕ) → List·Memᴰ i (upTo n) → i < n
 upTo-lt zero i m = absurd (List·Memᴰ·not-nil m)
 upTo-lt (suc n) i m =
@@ -43,22 +34,6 @@ module _ (test : ℕ → Bool) where
   all-of [] e i m = absurd (List·Memᴰ·not-nil m)
   all-of (j ∷ l) e i (List·Memᴰ·head q) = rw q (both (test j) (all test l) e .0)
   all-of (j ∷ l) e i (List·Memᴰ·tail m) = all-of l (both (test j) (all test l) e .1) i m
-
-  -- and back
-  pub all-by : (l : List ℕ) → ((i : ℕ) → List·Memᴰ i l → test i ≡ true) → all test l ≡ true
-  all-by [] h = refl
-  all-by (j ∷ l) h = rw (h j (List·Memᴰ·head refl)) (all-by l (λ i m. h i (List·Memᴰ·tail m)))
-
-  -- a test that holds of none of a list holds of no element
-  pub any-none : (l : List ℕ) → any test l ≡ false → (i : ℕ) → List·Memᴰ i l → test i ≡ false
-  any-none [] e i m = absurd (List·Memᴰ·not-nil m)
-  any-none (j ∷ l) e i (List·Memᴰ·head q) = rw q (or-split (test j) (any test l) e .0)
-  any-none (j ∷ l) e i (List·Memᴰ·tail m) = any-none l (or-split (test j) (any test l) e .1) i m
-
-  -- and back
-  pub none-any : (l : List ℕ) → ((i : ℕ) → List·Memᴰ i l → test i ≡ false) → any test l ≡ false
-  none-any [] h = refl
-  none-any (j ∷ l) h = rw (h j (List·Memᴰ·head refl)) (none-any l (λ i m. h i (List·Memᴰ·tail m)))
 
   -- a test that holds of some element
   pub any-some : (l : List ℕ) → any test l ≡ true → (i : ℕ) × List·Memᴰ i l × (test i ≡ true)
@@ -73,20 +48,12 @@ module _ (test : ℕ → Bool) where
   -- ---- counting
 
   -- one more element at the end
-  pub count-snoc : (l : List ℕ) (i : ℕ) → count test (l ++ (i ∷ [])) ≡ cond (test i) (suc (count test l)) (count test l)
-  count-snoc [] i = go (test i)
+  count-snoc : (l : List ℕ) (i : ℕ) → count test (l ++ (i ∷ [])) ≡ cond (test i) (suc (count test l)) (count test l)
+  count-snoc l i = count-append test l (i ∷ []) ∙ go (test i)
     where
-      go : (b : Bool) → length (cond b (i ∷ []) []) ≡ cond b 1 0
-      go true = refl
-      go false = refl
-  count-snoc (j ∷ l) i = go (test j) (test i) (count-snoc l i)
-    where
-      go : (b c : Bool) → length (keep test (l ++ (i ∷ []))) ≡ cond c (suc (count test l)) (count test l)
-          → length (cond b (j ∷ keep test (l ++ (i ∷ []))) (keep test (l ++ (i ∷ [])))) ≡ cond c (suc (length (cond b (j ∷ keep test l) (keep test l)))) (length (cond b (j ∷ keep test l) (keep test l)))
-      go true true ih = ap suc ih
-      go true false ih = ap suc ih
-      go false true ih = ih
-      go false false ih = ih
+      go : (b : Bool) → count test l + length (cond b (i ∷ []) []) ≡ cond b (suc (count test l)) (count test l)
+      go true = omega arith
+      go false = omega arith
 
   -- the count of the theory is the length of what is kept
   pub count-keep : (l : List ℕ) → Peel.count test l ≡ count test l
@@ -143,7 +110,7 @@ module _ (f h : ℕ → Bool) where
           same true = refl
           same false = refl
 
-  -- of any list: what is lost is at most the places of that number
+  -- of any list: the first test holds of no more than the second does and the places of that number
   pub count-lower : (i : ℕ) (l : List ℕ) → ((j : ℕ) → j ≢ i → f j ≡ h j) → count f l ≤ count h l + count (eqb i) l
   count-lower i [] e = omega arith
   count-lower i (j ∷ l) e = go (f j) (h j) (eqb i j) refl refl refl (count-lower i l e)

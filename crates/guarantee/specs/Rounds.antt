@@ -1,4 +1,4 @@
--- Settling (receiver's Settle.antt) as steps of the theory: it leaves the store in order and no check with exactly one member missing.
+-- Settling (calls' Settle.antt) as steps of the theory: it leaves the store in order and no check with exactly one member missing.
 use mathlib.Core.Path.{_≡_, refl, sym, ap, _∙_, subst}
 use mathlib.Core.Logic.{_≢_, _⊎_, inl, inr, ⊎-elim}
 use mathlib.Core.Bool.{Bool, true, false, cond, _&&_, true≢false}
@@ -11,24 +11,24 @@ use lib.ListN.{length}
 use lib.Dec.{eqb, ltb}
 use borrow.Author.Tests.{eqb-true, eqb-false, eq-eqb}
 use Rattle.sequence.specs.Lists.{headOr}
-use Rattle.window.specs.declared.Window.{Window}
-use Rattle.window.specs.Store.{Store, streamAt, snbaseAt, recoveryAt, parityAt}
-use Rattle.window.specs.Group.{missing}
-use Rattle.window.specs.Order.{inUse, groupAt}
-use Rattle.settle.specs.State.{State, Recovery, recount, rebuild, release}
-use Rattle.settle.specs.Settle.{lack, ready, rank, better, nextBelow, next, releaseSpent, releaseBelow, releaseAll, rebuildBy, roundBy, round}
 use Rattle.sequence.specs.Lists.{and-split as both}
+use Rattle.window.specs.declared.Window.{Window}
+use Rattle.window.specs.Store.{Store}
+use Rattle.window.specs.Order.{inUse, groupAt, missingAt}
+use Rattle.calls.specs.Content.{Content, contentOver, recoveryAt}
+use Rattle.calls.specs.State.{State, scene, recount, rebuild, release}
+use Rattle.calls.specs.Settle.{ready, rank, better, nextBelow, next, releaseSpent, releaseBelow, releaseAll, rebuildBy, roundBy, round}
 use Rattle.peel.specs.Group.{count-none}
 use Rattle.peel.specs.Peel.{gone, miss, Steps, stop, go-on}
 use Rattle.peel.specs.Rest.{Still, rounds, steps-then, still-steps}
-use Rattle.guarantee.specs.Packets.{xored, blank, part-fits, length-part}
-use Rattle.guarantee.specs.View.{member-lt, Held, view, groupOf, miss-count, Good, Lacks, held-count}
-use Rattle.guarantee.specs.Changes.{put-good, record-stream, record-start, record-use}
-use Rattle.guarantee.specs.Moves.{single, Solved, solved, newStamp, newPayload, rebuiltIn, rebuild-full, step-rebuild, zeros, zeros-size, freed, freed-other, freed-fewer, freed-good, step-free}
+use Rattle.guarantee.specs.Packets.{xored, zeros, length-part}
+use Rattle.guarantee.specs.View.{groupOf, checkAt, member-lt, Held, view, miss-count, Good, Missing, held-count}
+use Rattle.guarantee.specs.Changes.{put-good}
+use Rattle.guarantee.specs.Moves.{single, Solved, solved, rebuiltIn, rebuild-full, step-rebuild, freed, freed-other, freed-same, freed-fewer, freed-good, step-free}
 
 -- a state whose window value has a given window's set-up numbers
 abbrev pub at : Window → (a u : ℕ) → Store → (c : ℕ) → State
-at w a u s c = record { window = recount w a u; store = s; rebuilt = c }
+at w a u s c = scene (recount w a u) s c
 
 -- nothing is not something
 none-some : {A : Type 0} {x : A} → _≡_ {A = Option A} none (some x) → ⊥
@@ -94,14 +94,14 @@ pub record Freed (w : Window) (a u : ℕ) (s : Store) (c m : ℕ) (y : State) : 
   pub store : Store
   pub is : y ≡ at w a used store c
   pub good : Good w a used store
-  pub steps : Steps (groupOf w) xored blank (view w s) (view w store)
+  pub steps : Steps (groupOf w) xored zeros (view w s) (view w store)
   pub spent : ((store ≡ s) × (used ≡ u)) ⊎ (used < u)
-  pub lacks : (r : ℕ) → r < m → inUse store r ≡ true → 1 ≤ length (missing store (groupAt w store r))
+  pub least : (r : ℕ) → r < m → inUse store r ≡ true → 1 ≤ length (missingAt w store r)
 
 module _ {w : Window} {a u : ℕ} {s : Store} (G : Good w a u s) (c : ℕ) where
   -- one record more
   free-one : (m : ℕ) → m < w .k → (y : State) → Freed w a u s c m y → Freed w a u s c (suc m) (releaseSpent m y)
-  free-one m hm y f = rw (f .is) (go (inUse t m) (eqb (length (missing t (groupAt w t m))) 0) refl refl)
+  free-one m hm y f = rw (f .is) (go (inUse t m) (eqb (length (missingAt w t m)) 0) refl refl)
     where
       t : Store
       t = f .store
@@ -110,7 +110,7 @@ module _ {w : Window} {a u : ℕ} {s : Store} (G : Good w a u s) (c : ℕ) where
       x = at w a (f .used) t c
 
       -- it was not to be released
-      stays : (inUse t m ≡ true → 1 ≤ length (missing t (groupAt w t m))) → Freed w a u s c (suc m) x
+      stays : (inUse t m ≡ true → 1 ≤ length (missingAt w t m)) → Freed w a u s c (suc m) x
       stays h = record {
         used = f .used;
         store = t;
@@ -118,45 +118,43 @@ module _ {w : Window} {a u : ℕ} {s : Store} (G : Good w a u s) (c : ℕ) where
         good = f .good;
         steps = f .steps;
         spent = f .spent;
-        lacks = λ r l e. last r l e (ℕ-discrete r m);
+        least = λ r l e. last r l e (ℕ-discrete r m);
       }
         where
-          last : (r : ℕ) → r < suc m → inUse t r ≡ true → Dec (r ≡ m) → 1 ≤ length (missing t (groupAt w t r))
+          last : (r : ℕ) → r < suc m → inUse t r ≡ true → Dec (r ≡ m) → 1 ≤ length (missingAt w t r)
           last r l e (yes z) = rw z (h (ap (inUse t) (sym z) ∙ e))
-          last r l e (no z) = f .lacks r (omega arith) e
+          last r l e (no z) = f .least r (omega arith) e
 
-      go : (b d : Bool) → inUse t m ≡ b → eqb (length (missing t (groupAt w t m))) 0 ≡ d → Freed w a u s c (suc m) (cond (b && d) (release m x) x)
+      go : (b d : Bool) → inUse t m ≡ b → eqb (length (missingAt w t m)) 0 ≡ d → Freed w a u s c (suc m) (cond (b && d) (release m x) x)
       go false d p q = stays (λ e. absurd (true≢false (sym e ∙ p)))
-      go true false p q = stays (λ e. let z = eqb-false (length (missing t (groupAt w t m))) 0 q in omega arith)
+      go true false p q = stays (λ e. let z = eqb-false (length (missingAt w t m)) 0 q in omega arith)
       go true true p q = record {
         used = f .used - 1;
         store = freed w t m;
         is = refl;
         good = freed-good (f .good) m hm p;
-        steps = steps-then (groupOf w) xored blank (f .steps) (go-on (step-free (f .good) m hm p (eqb-true (length (missing t (groupAt w t m))) 0 q)) stop);
+        steps = steps-then (groupOf w) xored zeros (f .steps) (go-on (step-free (f .good) m hm p (eqb-true (length (missingAt w t m)) 0 q)) stop);
         spent = inr (⊎-elim (λ z. let l = freed-fewer (f .good) m hm p in omega (arith, z .1)) (λ z. let l = freed-fewer (f .good) m hm p in omega arith) (f .spent));
-        lacks = λ r l e. let n = freed-other (f .good) m hm p r e in old r l e n;
+        least = λ r l e. let n = freed-other (f .good) m hm p r e in old r l e n;
       }
         where
-          old : (r : ℕ) → r < suc m → inUse (freed w t m) r ≡ true → r ≢ m → 1 ≤ length (missing (freed w t m) (groupAt w (freed w t m) r))
-          old r l e n =
-              rw (record-stream (f .good) m 0 0 0 (zeros w) hm (zeros-size w) r n, record-start (f .good) m 0 0 0 (zeros w) hm (zeros-size w) r n)
-              (f .lacks r (omega arith) (sym (record-use (f .good) m 0 0 0 (zeros w) hm (zeros-size w) r n) ∙ e))
+          old : (r : ℕ) → r < suc m → inUse (freed w t m) r ≡ true → r ≢ m → 1 ≤ length (missingAt w (freed w t m) r)
+          old r l e n = let z = freed-same (f .good) m hm p r n in rw z (f .least r (omega arith) (rw z at e))
 
   -- the first m records
   pub free-below : (m : ℕ) → m ≤ w .k → Freed w a u s c m (releaseBelow m (at w a u s c))
-  free-below zero h = record { used = u; store = s; is = refl; good = G; steps = stop; spent = inl (refl, refl); lacks = λ r l e. absurd (omega arith) }
+  free-below zero h = record { used = u; store = s; is = refl; good = G; steps = stop; spent = inl (refl, refl); least = λ r l e. absurd (omega arith) }
   free-below (suc m) h = free-one m h (releaseBelow m (at w a u s c)) (free-below m (omega arith))
 
 -- a record in use with none missing is among those released
 spends : {w : Window} {a u : ℕ} {s : Store} {c m : ℕ} {y : State} (f : Freed w a u s c m y) (r : ℕ) → r < m → inUse s r ≡ true
-    → length (missing s (groupAt w s r)) ≡ 0 → f .used < u
+    → length (missingAt w s r) ≡ 0 → f .used < u
 spends {w} {s = s} f r h used empty =
-    ⊎-elim (λ z. absurd (let b : 1 ≤ length (missing s (groupAt w s r)) = subst (λ t. 1 ≤ length (missing t (groupAt w t r))) (z .0) (f .lacks r h (ap (λ t. inUse t r) (z .0) ∙ used)) in omega arith)) (λ z. z) (f .spent)
+    ⊎-elim (λ z. absurd (let b : 1 ≤ length (missingAt w s r) = subst (λ t. 1 ≤ length (missingAt w t r)) (z .0) (f .least r h (ap (λ t. inUse t r) (z .0) ∙ used)) in omega arith)) (λ z. z) (f .spent)
 
 -- ---- rounds
 
--- the state after some rounds: the store in order, each check lacks something, and the packets present rose by what was rebuilt
+-- the state after some rounds: the store in order, something missing of each check, and the packets present risen by what was rebuilt
 pub record After (w : Window) (a : ℕ) (s : Store) (c : ℕ) (y : State) : Type 1 where
   pub present : ℕ
   pub used : ℕ
@@ -164,13 +162,13 @@ pub record After (w : Window) (a : ℕ) (s : Store) (c : ℕ) (y : State) : Type
   pub count : ℕ
   pub is : y ≡ at w present used store count
   pub good : Good w present used store
-  pub lacks : Lacks 1 w store
-  pub steps : Steps (groupOf w) xored blank (view w s) (view w store)
+  pub least : Missing 1 w store
+  pub steps : Steps (groupOf w) xored zeros (view w s) (view w store)
   pub rise : present + c ≡ a + count
 
 -- no round: all stays as it is
-unmoved : {w : Window} {a u : ℕ} {s : Store} {c : ℕ} → Good w a u s → Lacks 1 w s → After w a s c (at w a u s c)
-unmoved {a = a} {u} {s} {c} G k = record { present = a; used = u; store = s; count = c; is = refl; good = G; lacks = k; steps = stop; rise = refl }
+unmoved : {w : Window} {a u : ℕ} {s : Store} {c : ℕ} → Good w a u s → Missing 1 w s → After w a s c (at w a u s c)
+unmoved {a = a} {u} {s} {c} G k = record { present = a; used = u; store = s; count = c; is = refl; good = G; least = k; steps = stop; rise = refl }
 
 -- one round: a number of steps, and a record fewer in use unless the receiver is at rest
 pub record Round (w : Window) (a u : ℕ) (s : Store) (c : ℕ) (y : State) : Type 1 where
@@ -182,17 +180,17 @@ pub record Rounds (w : Window) (n a u : ℕ) (s : Store) (c : ℕ) (y : State) :
   pub after : After w a s c y
   pub rest : u ≤ n → Still (groupOf w) (view w (after .store))
 
--- no record is ready, so no check in hand lacks exactly one
+-- no record is ready, so of no check in hand exactly one member is missing
 at-rest : {w : Window} {a u : ℕ} {s : Store} (c : ℕ) → Good w a u s → next (at w a u s c) ≡ none → Still (groupOf w) (view w s)
 unfolding next
 at-rest {w} {a} {u} {s} c G e k v h one =
     true≢false (sym (is-ready (h .at) (h .used) (sym (held-count G h) ∙ one)) ∙ unpicked (at w a u s c) (w .k) e (h .at) (h .below))
   where
-    is-ready : (r : ℕ) → inUse s r ≡ true → length (missing s (groupAt w s r)) ≡ 1 → ready (at w a u s c) r ≡ true
-    is-ready r p q = rw (p, eq-eqb (length (missing s (groupAt w s r))) 1 q)
+    is-ready : (r : ℕ) → inUse s r ≡ true → length (missingAt w s r) ≡ 1 → ready (at w a u s c) r ≡ true
+    is-ready r p q = rw (p, eq-eqb (length (missingAt w s r)) 1 q)
 
--- record r, which lacks one, rebuilds that, and what is spent is released
-module _ {w : Window} {a u : ℕ} {s : Store} (G : Good w a u s) (r : ℕ) (hr : r < w .k) (used : inUse s r ≡ true) (one : length (missing s (groupAt w s r)) ≡ 1) where
+-- record r, of whose group one is missing, rebuilds that, and what is spent is released
+module _ {w : Window} {a u : ℕ} {s : Store} (G : Good w a u s) (r : ℕ) (hr : r < w .k) (used : inUse s r ≡ true) (one : length (missingAt w s r) ≡ 1) where
   -- that is a round
   round-by : (c : ℕ) → Round w a u s c (releaseAll (rebuildBy r (at w a u s c)))
   unfolding releaseAll rebuild
@@ -204,43 +202,43 @@ module _ {w : Window} {a u : ℕ} {s : Store} (G : Good w a u s) (r : ℕ) (hr :
       count = c + 1;
       is = f .is;
       good = f .good;
-      lacks = record { lacks = f .lacks };
+      least = record { least = f .least };
       steps = go-on (step-rebuild G k v i q (Held w s)
-          (record { at = r; below = hr; used = used; stream = refl; start = refl; value = refl }) (λ l x h. h) (λ l x h. inl h)) (f .steps);
+          (record { at = r; below = hr; used = used; names = refl; value = refl }) (λ l x h. h) (λ l x h. inl h)) (f .steps);
       rise = omega arith;
     };
     work = inr (spends f r hr used empty);
   }
     where
       k : ℕ × ℕ
-      k = (streamAt s r, snbaseAt s r)
+      k = checkAt s r
 
       g : List ℕ
       g = groupAt w s r
 
-      v : Recovery
-      v = record { stamps = recoveryAt s r; payload = parityAt w s r }
+      v : Content
+      v = recoveryAt w s r
 
       size : length (v .payload) ≡ w .p
-      size = let z = part-fits r (w .k) (w .p) hr in length-part (s .parity) r (w .p) (omega (arith, G .fits .parity-long))
+      size = length-part (s .parity) r (w .k) (w .p) hr (G .fits .parity-long)
 
       i : ℕ
-      i = headOr 0 (missing s g)
+      i = headOr 0 (missingAt w s r)
 
       q : Solved w s g v i
-      q = solved G g (member-lt (G .shaped r hr used)) v size i (single (missing s g) one)
+      q = solved G g (member-lt (G .shaped r hr used)) v size i (single (missingAt w s r) one)
 
       t : Store
       t = rebuiltIn w s g v i
 
       f : Freed w (a + 1) u t (c + 1) (w .k) (releaseBelow (w .k) (at w (a + 1) u t (c + 1)))
-      f = free-below (put-good G i (newStamp s g v) (newPayload w s g v) (q .below) (q .size) (q .empty)) (c + 1) (w .k) (omega arith)
+      f = free-below (put-good G i (contentOver w s g v) (q .below) (q .size) (q .empty)) (c + 1) (w .k) (omega arith)
 
-      empty : length (missing t (groupAt w t r)) ≡ 0
+      empty : length (missingAt w t r) ≡ 0
       empty = sym (miss-count w t g (member-lt (G .shaped r hr used))) ∙ count-none (miss (view w t)) g (rebuild-full G k v i q)
 
 -- a round from a store in order
-pub one-round : {w : Window} {a u : ℕ} {s : Store} (c : ℕ) → Good w a u s → Lacks 1 w s → Round w a u s c (round (at w a u s c))
+pub one-round : {w : Window} {a u : ℕ} {s : Store} (c : ℕ) → Good w a u s → Missing 1 w s → Round w a u s c (round (at w a u s c))
 unfolding round next
 one-round {w} {a} {u} {s} c G k = go (next (at w a u s c)) refl
   where
@@ -251,8 +249,8 @@ one-round {w} {a} {u} {s} c G k = go (next (at w a u s c)) refl
     go none e = record { after = unmoved G k; work = inl (at-rest c G e) }
     go (some r) e =
         let p = picked x (w .k) r e in
-        let b = both (inUse s r) (eqb (lack x r) 1) (p .is-ready) in
-        round-by G r (p .below) (b .0) (eqb-true (lack x r) 1 (b .1)) c
+        let b = both (inUse s r) (eqb (length (missingAt w s r)) 1) (p .is-ready) in
+        round-by G r (p .below) (b .0) (eqb-true (length (missingAt w s r)) 1 (b .1)) c
 
 -- a round and n more
 and-more : {w : Window} {n a u : ℕ} {s : Store} {c : ℕ} {y z : State} (r : Round w a u s c y)
@@ -265,18 +263,18 @@ and-more {w} r q = record {
     count = q .after .count;
     is = q .after .is;
     good = q .after .good;
-    lacks = q .after .lacks;
-    steps = steps-then (groupOf w) xored blank (r .after .steps) (q .after .steps);
+    least = q .after .least;
+    steps = steps-then (groupOf w) xored zeros (r .after .steps) (q .after .steps);
     rise = omega (arith, r .after .rise, q .after .rise);
   };
-  rest = λ h. ⊎-elim (λ z. still-steps (groupOf w) xored blank (still-steps (groupOf w) xored blank z (r .after .steps)) (q .after .steps)) (λ l. q .rest (omega arith)) (r .work);
+  rest = λ h. ⊎-elim (λ z. still-steps (groupOf w) xored zeros (still-steps (groupOf w) xored zeros z (r .after .steps)) (q .after .steps)) (λ l. q .rest (omega arith)) (r .work);
 }
 
 -- n rounds from a store in order
-pub all-rounds : {w : Window} (n : ℕ) {a u : ℕ} {s : Store} (c : ℕ) → Good w a u s → Lacks 1 w s → Rounds w n a u s c (rounds round n (at w a u s c))
+pub all-rounds : {w : Window} (n : ℕ) {a u : ℕ} {s : Store} (c : ℕ) → Good w a u s → Missing 1 w s → Rounds w n a u s c (rounds round n (at w a u s c))
 unfolding rounds unmoved
 all-rounds zero c G k = record { after = unmoved G k; rest = λ h. ⊎-elim (λ z. z) (λ l. absurd (omega arith)) (one-round c G k .work) }
 all-rounds {w} (suc n) c G k =
     let r = one-round c G k in
     let f = r .after in
-    and-more r (subst (Rounds w n (f .present) (f .used) (f .store) (f .count)) (ap (rounds round n) (sym (f .is))) (all-rounds n (f .count) (f .good) (f .lacks)))
+    and-more r (subst (Rounds w n (f .present) (f .used) (f .store) (f .count)) (ap (rounds round n) (sym (f .is))) (all-rounds n (f .count) (f .good) (f .least)))

@@ -11,29 +11,35 @@ use lib.Dec.{ltb}
 use borrow.Author.Tests.{ltb-true}
 use Rattle.answer.specs.First.{None}
 use Rattle.sequence.specs.Wrap.{numberAt, ahead-numberAt}
-use Rattle.rtp.specs.Rtp.{sequenceNumber, timestamp}
+use Rattle.rtp.specs.Rtp.{sequenceNumber}
 use Rattle.rtp.specs.Fec.{column, row, snbase}
 use Rattle.rtp.specs.Faults.{mediaTests, parityTests}
 use Rattle.window.specs.declared.Window.{Window}
-use Rattle.window.specs.Group.{width, position, group, inside}
+use Rattle.window.specs.Limits.{width}
+use Rattle.window.specs.Group.{position, group, inside}
 use Rattle.calls.specs.Datagram.{parityPacket}
-use Rattle.calls.specs.Accept.{mediaPayload, recoveryOf}
+use Rattle.calls.specs.Content.{Content}
+use Rattle.calls.specs.Accept.{contentOf, recoveryOf}
 use Rattle.peel.specs.Group as Peel
 use Rattle.peel.specs.Peel as Theory
 use Rattle.guarantee.specs.Ranges.{all-of}
-use Rattle.guarantee.specs.Packets.{Packet, xored, blank, packetOf, packet-total, length-payloads}
+use Rattle.guarantee.specs.Packets.{Packet, xored, zeros, packetOf, packet-total, length-payloads}
 use Rattle.guarantee.specs.View.{Limits, groupOf}
 use Rattle.guarantee.specs.Order.{limits}
-use Rattle.guarantee.specs.Wire.{media-number, media-stamp, media-faultless, parity-start, parity-stamps, parity-faultless, stamps-lt}
+use Rattle.guarantee.specs.Wire.{media-number, media-timestamp, media-faultless, parity-snbase, parity-timestamp, parity-faultless, timestamps-lt}
 use Rattle.guarantee.specs.Offers.{mediaSeen, paritySeen}
 use Rattle.guarantee.specs.Fine.{Opened}
 use Rattle.guarantee.specs.Demand3.{Port, mediaPort, columnPort, rowPort, Offer, Stretch, UnalteredMedia, UnalteredParity, UnalteredOn, Unaltered, mediaName, parityName, nameOn}
 
 -- ---- an offer as the theory sees it
 
+-- the content sent at a position
+abbrev pub contentSent : {w : Window} → Stretch w → ℕ → Content
+contentSent t i = record { timestamp = t .timestamp i; payload = t .payload i }
+
 -- the packet sent at a position
 abbrev pub sent : {w : Window} → Stretch w → ℕ → Packet
-sent t i = packetOf (t .stamp i) (t .payload i)
+sent t i = packetOf (contentSent t i)
 
 -- a datagram on a port
 abbrev pub seenOn : Window → Port → List ℕ → Theory.Offer (ℕ × ℕ) Packet
@@ -56,7 +62,7 @@ module _ {w : Window} (O : Opened w) (t : Stretch w) where
 
   -- the position of a position's number
   pub position-number : (i : ℕ) → i < w .n → position w (numberAt width (w .base) i) ≡ i
-  position-number i h = ahead-numberAt 16 (w .base) (omega (arith, L .based)) i (omega (arith, L .set-up .n-high))
+  position-number i h = ahead-numberAt width (w .base) (omega (arith, L .based)) i (omega (arith, L .set-up .n-high))
 
   -- what is read in an unaltered media packet
   pub record MediaRead (g : List ℕ) : Type 0 where
@@ -64,49 +70,49 @@ module _ {w : Window} (O : Opened w) (t : Stretch w) where
     pub below : place < w .n
     pub number : sequenceNumber g ≡ numberAt width (w .base) place
     pub faultless : None (mediaTests (w .p) g)
-    pub carries : packetOf (timestamp g) (mediaPayload g) ≡ sent t place
+    pub carries : packetOf (contentOf g) ≡ sent t place
 
   -- it is what was sent
   pub media-read : (g : List ℕ) → UnalteredMedia w t g → MediaRead g
   media-read g u = subst MediaRead (sym (u .is)) (record {
     place = u .place;
     below = u .in-window;
-    number = media-number (numberAt width (w .base) (u .place)) (t .stamp (u .place)) (u .ssrc) (t .payload (u .place)) (mod-lt _ (pow-pos 16));
-    faultless = media-faultless (numberAt width (w .base) (u .place)) (t .stamp (u .place)) (u .ssrc) (t .payload (u .place)) (w .p) (t .size (u .place) (u .in-window));
-    carries = ap (λ x. packetOf x (t .payload (u .place)))
-        (media-stamp (numberAt width (w .base) (u .place)) (t .stamp (u .place)) (u .ssrc) (t .payload (u .place)) (t .stamp-fits (u .place) (u .in-window)));
+    number = media-number (numberAt width (w .base) (u .place)) (t .timestamp (u .place)) (u .ssrc) (t .payload (u .place)) (mod-lt _ (pow-pos width));
+    faultless = media-faultless (numberAt width (w .base) (u .place)) (t .timestamp (u .place)) (u .ssrc) (t .payload (u .place)) (w .p) (t .size (u .place) (u .in-window));
+    carries = ap (λ x. packetOf (record { timestamp = x; payload = t .payload (u .place) }))
+        (media-timestamp (numberAt width (w .base) (u .place)) (t .timestamp (u .place)) (u .ssrc) (t .payload (u .place)) (t .timestamp-fits (u .place) (u .in-window)));
   })
 
   -- what is read in an unaltered parity packet
   pub record ParityRead (stream : ℕ) (g : List ℕ) : Type 0 where
     pub faultless : None (parityTests stream (w .l) (w .d) (w .p) g)
     pub within : inside w stream (snbase g) ≡ true
-    pub carries : packetOf (recoveryOf g .stamps) (recoveryOf g .payload) ≡ Peel.total xored blank (sent t) (group w stream (snbase g))
+    pub carries : packetOf (recoveryOf g) ≡ Peel.total xored zeros (sent t) (group w stream (snbase g))
 
   -- it is what was sent, over its group
   pub parity-read : (stream : ℕ) → stream ≤ 1 → (g : List ℕ) → UnalteredParity w t stream g → ParityRead stream g
   parity-read stream hs g u = subst (ParityRead stream) (sym (u .is)) (record {
-    faultless = parity-faultless (u .outer) stream (w .l) (w .d) (w .p) (u .start) stamps payloads hs (omega (arith, L .set-up .p-high)) (u .permitted)
-        (length-payloads (w .p) (t .stamp) (t .payload) members sizes);
-    within = rw starts (u .in-window);
-    carries = rw starts (ap (λ x. packetOf x (recoveryOf h .payload)) (parity-stamps (u .outer) stream (w .l) (w .d) (w .p) (u .start) stamps payloads
-        (stamps-lt (t .stamp) members (λ j m. t .stamp-fits j (below j m)))) ∙ packet-total (w .p) (t .stamp) (t .payload) members sizes);
+    faultless = parity-faultless (u .outer) stream (w .l) (w .d) (w .p) (u .snbase) timestamps payloads hs (omega (arith, L .set-up .p-high)) (u .permitted)
+        (length-payloads (w .p) (contentSent t) members sizes);
+    within = rw reads (u .in-window);
+    carries = rw reads (ap (λ x. packetOf (record { timestamp = x; payload = recoveryOf h .payload })) (parity-timestamp (u .outer) stream (w .l) (w .d) (w .p) (u .snbase) timestamps payloads
+        (timestamps-lt (t .timestamp) members (λ j m. t .timestamp-fits j (below j m)))) ∙ packet-total (w .p) (contentSent t) members sizes);
   })
     where
       members : List ℕ
-      members = group w stream (u .start)
+      members = group w stream (u .snbase)
 
-      stamps : List ℕ
-      stamps = map (t .stamp) members
+      timestamps : List ℕ
+      timestamps = map (t .timestamp) members
 
       payloads : List (List ℕ)
       payloads = map (t .payload) members
 
       h : List ℕ
-      h = parityPacket (u .outer) stream (w .l) (w .d) (w .p) (u .start) stamps payloads
+      h = parityPacket (u .outer) stream (w .l) (w .d) (w .p) (u .snbase) timestamps payloads
 
-      starts : snbase h ≡ u .start
-      starts = parity-start (u .outer) stream (w .l) (w .d) (w .p) (u .start) stamps payloads (u .start-fits)
+      reads : snbase h ≡ u .snbase
+      reads = parity-snbase (u .outer) stream (w .l) (w .d) (w .p) (u .snbase) timestamps payloads (u .snbase-fits)
 
       below : (j : ℕ) → List·Memᴰ j members → j < w .n
       below j m = ltb-true j (w .n) (all-of (λ i. ltb i (w .n)) members (u .in-window) j m)
@@ -117,7 +123,7 @@ module _ {w : Window} (O : Opened w) (t : Stretch w) where
   -- ---- every offer carries what was sent, and is known by its name
 
   -- an unaltered offer carries what was sent
-  pub unaltered-seen : (p : Port) (g : List ℕ) → UnalteredOn w t p g → Theory.Unaltered (groupOf w) xored blank (sent t) (seenOn w p g)
+  pub unaltered-seen : (p : Port) (g : List ℕ) → UnalteredOn w t p g → Theory.Unaltered (groupOf w) xored zeros (sent t) (seenOn w p g)
   unaltered-seen mediaPort g u =
       let r = media-read g u in
       let e : position w (sequenceNumber g) ≡ r .place = ap (position w) (r .number) ∙ position-number (r .place) (r .below) in
@@ -139,7 +145,7 @@ module _ {w : Window} (O : Opened w) (t : Stretch w) where
   pub name-media : (p : Port) (g : List ℕ) (i : ℕ) → i < w .n → nameOn p g ≡ mediaName (numberAt width (w .base) i) → (x : Packet) × (seenOn w p g ≡ Theory.media i x)
   name-media mediaPort g i h e =
       let a : sequenceNumber g ≡ numberAt width (w .base) i = cc in
-      (packetOf (timestamp g) (mediaPayload g), ap (λ j. Theory.media j (packetOf (timestamp g) (mediaPayload g))) (ap (position w) a ∙ position-number i h))
+      (packetOf (contentOf g), ap (λ j. Theory.media j (packetOf (contentOf g))) (ap (position w) a ∙ position-number i h))
   name-media columnPort g i h e = absurd (let z : _≡_ {A = ℕ} 0 1 = cc in omega arith)
   name-media rowPort g i h e = absurd (let z : _≡_ {A = ℕ} 0 1 = cc in omega arith)
 
@@ -150,19 +156,19 @@ module _ {w : Window} (O : Opened w) (t : Stretch w) where
   check-name rowPort g k x e = let z : (row, snbase g) ≡ k = cc in ap (λ (k : ℕ × ℕ). parityName (k .0) (k .1)) z
 
   -- the check of a parity packet's name, whose group lies in the window
-  pub record CheckSeen (p : Port) (g : List ℕ) (stream start : ℕ) : Type 0 where
+  pub record CheckSeen (p : Port) (g : List ℕ) (stream snbase′ : ℕ) : Type 0 where
     pub value : Packet
-    pub is : seenOn w p g ≡ Theory.check (stream, start) value
-    pub within : inside w stream start ≡ true
+    pub is : seenOn w p g ≡ Theory.check (stream, snbase′) value
+    pub within : inside w stream snbase′ ≡ true
 
   -- and back
-  pub name-check : (p : Port) (g : List ℕ) → UnalteredOn w t p g → (stream start : ℕ) → nameOn p g ≡ parityName stream start → CheckSeen p g stream start
-  name-check mediaPort g u stream start e = absurd (let z : _≡_ {A = ℕ} 0 1 = cc in omega arith)
-  name-check columnPort g u stream start e =
+  pub name-check : (p : Port) (g : List ℕ) → UnalteredOn w t p g → (stream snbase′ : ℕ) → nameOn p g ≡ parityName stream snbase′ → CheckSeen p g stream snbase′
+  name-check mediaPort g u stream snbase′ e = absurd (let z : _≡_ {A = ℕ} 0 1 = cc in omega arith)
+  name-check columnPort g u stream snbase′ e =
       let a : column ≡ stream = cc in
-      let b : snbase g ≡ start = cc in
+      let b : snbase g ≡ snbase′ = cc in
       rw (← a, ← b) (record { value = _; is = refl; within = parity-read column (omega arith) g u .within })
-  name-check rowPort g u stream start e =
+  name-check rowPort g u stream snbase′ e =
       let a : row ≡ stream = cc in
-      let b : snbase g ≡ start = cc in
+      let b : snbase g ≡ snbase′ = cc in
       rw (← a, ← b) (record { value = _; is = refl; within = parity-read row (omega arith) g u .within })

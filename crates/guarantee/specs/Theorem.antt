@@ -1,6 +1,6 @@
 -- Demand 3 (Demand3.antt), proved: a run keeps the invariant of Fine.antt, and the theory's theorems give the conclusions.
 use mathlib.Core.Path.{_≡_, refl, sym, ap, _∙_, subst}
-use mathlib.Core.Logic.{_≢_, _⊎_, inl, inr, ⊎-elim}
+use mathlib.Core.Logic.{_⊎_, inl, inr, ⊎-elim}
 use mathlib.Core.Bool.{Bool, true, false, cond, _&&_, _||_, true≢false, false≢true}
 use mathlib.Core.List.{List, [], _∷_, _++_, map, append-nil, append-assoc, List·Memᴰ, List·Memᴰ·head, List·Memᴰ·tail, List·Memᴰ·not-nil, Memᴰ·cast, Memᴰ·map, Memᴰ·of-map, Memᴰ·append-left, Memᴰ·append-right}
 use Prim.Native.Nat.{ℕ, _<_, _≤_}
@@ -13,23 +13,23 @@ use Rattle.answer.specs.First.{first, first-none}
 use Rattle.sequence.specs.Wrap.{numberAt}
 use Rattle.rtp.specs.Fec.{column, row, snbase}
 use Rattle.window.specs.declared.Window.{Window}
-use Rattle.window.specs.Limits.{setUpTests}
+use Rattle.window.specs.Limits.{width, setUpTests}
 use Rattle.window.specs.Store.{Store, shortStore, payloadAt}
-use Rattle.window.specs.Group.{width, position, group, inside, lost}
+use Rattle.window.specs.Group.{position, group, inside, isMissing}
 use Rattle.sequence.specs.Lists.{and-split as both}
-use Rattle.calls.specs.Call.{Outcome, noWindow, asked, cleared, openTests, opened}
+use Rattle.calls.specs.Call.{Outcome, contentAt, noWindow, asked, cleared, openTests, opened}
 use Rattle.xor.specs.Laws.{packet}
 use Rattle.peel.specs.Peel as Theory
 use Rattle.peel.specs.Rest.{Still}
 use Rattle.peel.specs.Theorem.{right, stopping, missing-iff}
 use Rattle.guarantee.specs.Ranges.{decide, keep-ext, count-keep, all-of}
-use Rattle.guarantee.specs.Packets.{Packet, xored, blank, packet-stamp, packet-payload, part-fits, length-part}
-use Rattle.guarantee.specs.View.{view, groupOf, packetAt, slot-here, miss-lost, mark-one}
+use Rattle.guarantee.specs.Packets.{Packet, xored, zeros, packet-timestamp, packet-payload, length-part}
+use Rattle.guarantee.specs.View.{groupOf, packetAt, view, slot-present, miss-mark, mark-one}
 use Rattle.guarantee.specs.Accepted.{rests}
 use Rattle.guarantee.specs.Offers.{none-split, done-first}
 use Rattle.guarantee.specs.Fine.{Opened, Fine, fine-start, fine-media, fine-parity}
 use Rattle.guarantee.specs.Demand3.{Port, mediaPort, columnPort, rowPort, Offer, callOf, offered, run, Stretch, UnalteredOn, Unaltered, Name, mediaName, parityName, nameOn, nameOf, Received, groupNamed, groupsOf, listed, different, distinctGroups, markAt, Hidden, Demand3, Claim, SamePackets, ClaimSame}
-use Rattle.guarantee.specs.Sent.{sent, seenOn, seen, media-read, parity-read, position-number, unaltered-seen, media-name, name-media, check-name, name-check}
+use Rattle.guarantee.specs.Sent.{contentSent, sent, seenOn, seen, media-read, parity-read, position-number, unaltered-seen, media-name, name-media, check-name, name-check}
 
 -- ---- the different groups of a list
 
@@ -55,7 +55,7 @@ different-has (x ∷ l) k m = go (listed x l) refl (different-has l) m
     go false q ih (List·Memᴰ·tail n) = List·Memᴰ·tail (ih k n)
 
 -- the group of every parity offer is among the groups
-groups-has : (offers : List Offer) (o : Offer) (stream start : ℕ) → List·Memᴰ o offers → nameOf o ≡ parityName stream start → List·Memᴰ (stream, start) (groupsOf offers)
+groups-has : (offers : List Offer) (o : Offer) (stream snbase : ℕ) → List·Memᴰ o offers → nameOf o ≡ parityName stream snbase → List·Memᴰ (stream, snbase) (groupsOf offers)
 groups-has [] o a b m e = absurd (List·Memᴰ·not-nil m)
 groups-has (p ∷ offers) o a b (List·Memᴰ·head q) e =
     Memᴰ·append-left (groupsOf offers) (subst (λ x. List·Memᴰ (a, b) (groupNamed x)) (sym (ap nameOf (sym q) ∙ e)) (List·Memᴰ·head refl))
@@ -66,7 +66,7 @@ module _ {w : Window} (O : Opened w) (t : Stretch w) where
 
   module _ {D : List (ℕ × ℕ)} (room : length D ≤ w .k) where
     -- an unaltered offer keeps the invariant
-    fine-offer : (p : Port) (g : List ℕ) → UnalteredOn w t p g → ((stream start : ℕ) → nameOn p g ≡ parityName stream start → List·Memᴰ (stream, start) D)
+    fine-offer : (p : Port) (g : List ℕ) → UnalteredOn w t p g → ((stream snbase : ℕ) → nameOn p g ≡ parityName stream snbase → List·Memᴰ (stream, snbase) D)
         → {os : List (Theory.Offer (ℕ × ℕ) Packet)} {v : Window} {s : Store} → Fine w D os v s
         → Fine w D (os ++ (seenOn w p g ∷ [])) (callOf p v g s .window) (callOf p v g s .store)
     fine-offer mediaPort g u key f =
@@ -77,7 +77,7 @@ module _ {w : Window} (O : Opened w) (t : Stretch w) where
 
     -- and so does a list of them
     fine-run : (offers : List Offer) → ((o : Offer) → List·Memᴰ o offers → Unaltered w t o)
-        → ((o : Offer) → List·Memᴰ o offers → (stream start : ℕ) → nameOf o ≡ parityName stream start → List·Memᴰ (stream, start) D)
+        → ((o : Offer) → List·Memᴰ o offers → (stream snbase : ℕ) → nameOf o ≡ parityName stream snbase → List·Memᴰ (stream, snbase) D)
         → (os : List (Theory.Offer (ℕ × ℕ) Packet)) (x : Outcome) → Fine w D os (x .window) (x .store)
         → Fine w D (os ++ map (seen w) offers) (run x offers .window) (run x offers .store)
     unfolding run
@@ -105,21 +105,21 @@ module _ {w : Window} (O : Opened w) (t : Stretch w) where
           let o = by-name (mediaName (numberAt width (w .base) i)) m in
           let x = name-media O t (o .0 .port) (o .0 .datagram) i (ltb-true i (w .n) (b .0)) (o .2) in
           true≢false (sym (b .1) ∙ f .inv .all (Theory.media i (x .0)) (Memᴰ·cast (sym (x .1)) (Memᴰ·map (seen w) (o .1))));
-      never-one = λ stream start m e. let o = by-name (parityName stream start) m in
-          let c = name-check O t (o .0 .port) (o .0 .datagram) (ok (o .0) (o .1)) stream start (o .2) in
-          set .never-one (stream, start) (c .value) (Memᴰ·cast (sym (c .is)) (Memᴰ·map (seen w) (o .1)))
-          (count-keep (Theory.miss (view w s)) (group w stream start)
-          ∙ ap length (keep-ext (Theory.miss (view w s)) kept (group w stream start) (inner stream start (c .within))) ∙ e);
+      never-one = λ stream snbase m e. let o = by-name (parityName stream snbase) m in
+          let c = name-check O t (o .0 .port) (o .0 .datagram) (ok (o .0) (o .1)) stream snbase (o .2) in
+          set .never-one (stream, snbase) (c .value) (Memᴰ·cast (sym (c .is)) (Memᴰ·map (seen w) (o .1)))
+          (count-keep (Theory.miss (view w s)) (group w stream snbase)
+          ∙ ap length (keep-ext (Theory.miss (view w s)) kept (group w stream snbase) (inner stream snbase (c .within))) ∙ e);
     }
       where
         kept : ℕ → Bool
         kept i = ltb i (w .n) && Theory.miss (view w s) i
 
         set : Theory.Stopping (groupOf w) (map (seen w) offers) (Theory.miss (view w s))
-        set = stopping (groupOf w) xored blank (f .inv) still
+        set = stopping (groupOf w) xored zeros (f .inv) still
 
-        inner : (stream start : ℕ) → inside w stream start ≡ true → (i : ℕ) → List·Memᴰ i (group w stream start) → Theory.miss (view w s) i ≡ kept i
-        inner stream start h i k = rw (all-of (λ j. ltb j (w .n)) (group w stream start) h i k)
+        inner : (stream snbase : ℕ) → inside w stream snbase ≡ true → (i : ℕ) → List·Memᴰ i (group w stream snbase) → Theory.miss (view w s) i ≡ kept i
+        inner stream snbase h i k = rw (all-of (λ j. ltb j (w .n)) (group w stream snbase) h i k)
 
     -- what is hidden is a stopping set of the theory
     hidden-stopping : (S : ℕ → Bool) → Hidden w offers S → Theory.Stopping (groupOf w) (map (seen w) offers) S
@@ -136,21 +136,21 @@ module _ {w : Window} (O : Opened w) (t : Stretch w) where
     -- the three conclusions
     conclusions : Demand3 w t offers s
     conclusions = record {
-      mark = λ i h. ⊎-elim (λ e. inl (eqb-true (markAt s i) 0 e)) (λ e. inr (mark-one (f .order .good) i h e)) (decide (lost s i));
-      present = λ i h e. let n : lost s i ≡ false = rw e in
-          let z : packetAt w s i ≡ sent t i = right (groupOf w) xored blank packet (sent t) (f .inv) all-unaltered i (packetAt w s i) (slot-here w s i h n) in
-          (packet-stamp _ _ _ _ z, packet-payload _ _ _ _ (size-at i h ∙ sym (t .size i h)) z);
+      mark = λ i h. ⊎-elim (λ e. inl (eqb-true (markAt s i) 0 e)) (λ e. inr (mark-one (f .order .good) i h e)) (decide (isMissing (s .marks) i));
+      present = λ i h e. let n : isMissing (s .marks) i ≡ false = rw e in
+          let z : packetAt w s i ≡ sent t i = right (groupOf w) xored zeros packet (sent t) (f .inv) all-unaltered i (packetAt w s i) (slot-present w s i h n) in
+          (packet-timestamp (contentAt w s i) (contentSent t i) z, packet-payload (contentAt w s i) (contentSent t i) (size-at i h ∙ sym (t .size i h)) z);
       missing = λ i h. (
-        λ e. (λ j. ltb j (w .n) && Theory.miss (view w s) j, missing-hidden, rw (lt-ltb i (w .n) h, miss-lost w s i h, e)),
-        λ q. eqb-true (markAt s i) 0 (sym (miss-lost w s i h) ∙ missing-iff (groupOf w) xored blank (f .inv) still i .1 (q .0, hidden-stopping (q .0) (q .1), q .2)),
+        λ e. (λ j. ltb j (w .n) && Theory.miss (view w s) j, missing-hidden, rw (lt-ltb i (w .n) h, miss-mark w s i h, e)),
+        λ q. eqb-true (markAt s i) 0 (sym (miss-mark w s i h) ∙ missing-iff (groupOf w) xored zeros (f .inv) still i .1 (q .0, hidden-stopping (q .0) (q .1), q .2)),
       );
     }
       where
-        all-unaltered : (p : Theory.Offer (ℕ × ℕ) Packet) → List·Memᴰ p (map (seen w) offers) → Theory.Unaltered (groupOf w) xored blank (sent t) p
+        all-unaltered : (p : Theory.Offer (ℕ × ℕ) Packet) → List·Memᴰ p (map (seen w) offers) → Theory.Unaltered (groupOf w) xored zeros (sent t) p
         all-unaltered p m = let o = Memᴰ·of-map (seen w) offers m in rw (sym (o .2)) (unaltered-seen O t (o .0 .port) (o .0 .datagram) (ok (o .0) (o .1)))
 
         size-at : (i : ℕ) → i < w .n → length (payloadAt w s i) ≡ w .p
-        size-at i h = let z = part-fits i (w .n) (w .p) h in length-part (s .media) i (w .p) (omega (arith, f .order .good .fits .media-long))
+        size-at i h = length-part (s .media) i (w .n) (w .p) h (f .order .good .fits .media-long)
 
 -- ---- the opening
 
@@ -169,7 +169,7 @@ hidden-fewer : {w : Window} {offers others : List Offer} {S : ℕ → Bool} → 
 hidden-fewer sub h = record {
   of-stretch = h .of-stretch;
   unreceived = λ i e m. h .unreceived i e (sub _ m);
-  never-one = λ stream start m. h .never-one stream start (sub _ m);
+  never-one = λ stream snbase m. h .never-one stream snbase (sub _ m);
 }
 
 -- so what is missing after one list is missing after the other

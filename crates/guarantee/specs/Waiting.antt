@@ -11,10 +11,9 @@ use Rattle.answer.specs.First.{first}
 use Rattle.rtp.specs.Fec.{column, row}
 use Rattle.window.specs.declared.Window.{Window}
 use Rattle.window.specs.Store.{Store}
-use Rattle.window.specs.Group.{missing}
-use Rattle.window.specs.Order.{inUse, groupAt, disorder}
+use Rattle.window.specs.Order.{inUse, missingAt, disorder}
 use Rattle.calls.specs.Accept.{acceptMedia, acceptParity}
-use Rattle.calls.specs.Call.{Outcome, mediaOfferTests, parityOfferTests, start, settled, refused, offeredMedia, offeredParity}
+use Rattle.calls.specs.Call.{Outcome, mediaOfferTests, parityOfferTests, begun, settled, refused, offeredMedia, offeredParity}
 use Rattle.peel.specs.Peel as Peel
 use Rattle.guarantee.specs.Packets.{Packet}
 use Rattle.guarantee.specs.Order.{good-order}
@@ -31,25 +30,25 @@ itself rowPort = 0
 -- what an accepted offer leaves
 pub record Left (p : Port) (w : Window) (count : ℕ) (x : Outcome) : Type 0 where
   pub in-order : disorder (x .window) (x .store) ≡ false
-  pub waits : (r : ℕ) → r < x .window .k → inUse (x .store) r ≡ true → 2 ≤ length (missing (x .store) (groupAt (x .window) (x .store) r))
+  pub waits : (r : ℕ) → r < x .window .k → inUse (x .store) r ≡ true → 2 ≤ length (missingAt (x .window) (x .store) r)
   pub rise : x .window .present ≡ w .present + itself p + count
 
 -- an offer that was done met no refusal
 media-done : (w : Window) (g : List ℕ) (s : Store) (c : ℕ) → offeredMedia w g s .answer ≡ Done c → first (mediaOfferTests w g s) ≡ 0
 unfolding offeredMedia
-media-done w g s c = done-first (mediaOfferTests w g s) (settled (acceptMedia g (start w s))) (refused (first (mediaOfferTests w g s)) w s) (first (mediaOfferTests w g s)) c refl
+media-done w g s c = done-first (mediaOfferTests w g s) (settled (acceptMedia g (begun w s))) (refused (first (mediaOfferTests w g s)) w s) (first (mediaOfferTests w g s)) c refl
 
 -- the same of parity
 parity-done : (stream : ℕ) (w : Window) (g : List ℕ) (s : Store) (c : ℕ) → offeredParity stream w g s .answer ≡ Done c → first (parityOfferTests w stream g s) ≡ 0
 unfolding offeredParity
 parity-done stream w g s c =
-    done-first (parityOfferTests w stream g s) (settled (acceptParity stream g (start w s))) (refused (first (parityOfferTests w stream g s)) w s) (first (parityOfferTests w stream g s)) c refl
+    done-first (parityOfferTests w stream g s) (settled (acceptParity stream g (begun w s))) (refused (first (parityOfferTests w stream g s)) w s) (first (parityOfferTests w stream g s)) c refl
 
 -- what settling leaves, read off the outcome
 left-by : (p : Port) (w : Window) {s : Store} {o : Peel.Offer (ℕ × ℕ) Packet} {x : Outcome} (c : ℕ) → Settled w (w .present) s o (itself p) x → x .answer ≡ Done c → Left p w c x
 left-by p w {x = x} c t e = record {
-  in-order = rw (t .window) (good-order w (t .present) (t .used) (x .store) (t .order .good) (t .order .waits));
-  waits = rw (t .window) (t .order .waits .lacks);
+  in-order = rw (t .window) (good-order w (t .present) (t .used) (x .store) (t .order));
+  waits = rw (t .window) (t .order .waits .least);
   rise = let z : c ≡ t .count = cc in ap (λ v. v .present) (t .window) ∙ t .rise ∙ ap (λ n. w .present + itself p + n) (sym z);
 }
 
@@ -66,7 +65,7 @@ module _ (o : Offer) (w : Window) (s : Store) (count : ℕ) (base-fits : w .base
 
   -- and every record in use covers at least two missing packets
   pub settled-waiting : (r : ℕ) → r < offered o w s .window .k → inUse (offered o w s .store) r ≡ true
-      → 2 ≤ length (missing (offered o w s .store) (groupAt (offered o w s .window) (offered o w s .store) r))
+      → 2 ≤ length (missingAt (offered o w s .window) (offered o w s .store) r)
   settled-waiting = left (o .port) (o .datagram) w s count base-fits accepted .waits
 
   -- the count is the rise in packets present, less the media packet itself

@@ -1,22 +1,21 @@
--- What a receiver reads in an unaltered datagram (receiver's Datagram.antt): its own fields, and no fault of refusals 6 to 12.
+-- What a receiver reads in an unaltered datagram (calls' Datagram.antt): its own fields, and no fault of refusals 6 to 12.
 use mathlib.Core.Path.{_≡_, refl, sym, ap}
 use mathlib.Core.Bool.{Bool, true, false, not, cond}
 use mathlib.Core.List.{List, [], _∷_, map, List·Memᴰ, List·Memᴰ·head, List·Memᴰ·tail}
 use Prim.Native.Nat.{ℕ, _+_, _*_, _-_, _/_, _%_, _^_, _<_, _≤_}
 use native.Mathlib.Nat.{div-div-eq-div-mul}
 use native.Mathlib.Omega.{arith}
-use lib.ListN.{length, drop}
+use lib.ListN.{length}
 use lib.Dec.{eqb}
 use lib.Bits.{xor-lt}
 use borrow.Author.Tests.{eq-eqb, le-ltb}
 use Rattle.answer.specs.First.{None}
-use Rattle.xor.specs.Xor.{xorAll}
+use Rattle.xor.specs.Xor.{xorAll, xorPayloads}
 use Rattle.rtp.specs.Bytes.{be16, be32}
 use Rattle.rtp.specs.Rtp.{sequenceNumber, timestamp}
 use Rattle.rtp.specs.Fec.{offsetOf, naOf, byNa, snbase, timestampRecovery}
 use Rattle.rtp.specs.Faults.{noRow, badFec, badRecovery, badProfile, mediaTests, parityTests}
 use Rattle.calls.specs.Datagram.{mediaPacket, Outer, parityPacket}
-use Rattle.xor.specs.Xor.{xorPayloads}
 
 -- ---- numbers, written and read
 
@@ -32,57 +31,47 @@ read32 x h =
     rw (a, b) (omega arith)
 
 -- the exclusive-or of timestamps is of 32 bits
-pub stamps-lt : (f : ℕ → ℕ) (g : List ℕ) → ((j : ℕ) → List·Memᴰ j g → f j < 2 ^ 32) → xorAll (map f g) < 2 ^ 32
-stamps-lt f [] h = omega arith
-stamps-lt f (j ∷ g) h = xor-lt 32 (f j) (xorAll (map f g)) (h j (List·Memᴰ·head refl)) (stamps-lt f g (λ i m. h i (List·Memᴰ·tail m)))
+pub timestamps-lt : (f : ℕ → ℕ) (g : List ℕ) → ((j : ℕ) → List·Memᴰ j g → f j < 2 ^ 32) → xorAll (map f g) < 2 ^ 32
+timestamps-lt f [] h = omega arith
+timestamps-lt f (j ∷ g) h = xor-lt 32 (f j) (xorAll (map f g)) (h j (List·Memᴰ·head refl)) (timestamps-lt f g (λ i m. h i (List·Memᴰ·tail m)))
 
 -- ---- media
 
-module _ (number stamp source : ℕ) (payload : List ℕ) where
+module _ (number timestamp′ ssrc : ℕ) (payload : List ℕ) where
   -- its sequence number is read
-  pub media-number : number < 2 ^ 16 → sequenceNumber (mediaPacket number stamp source payload) ≡ number
+  pub media-number : number < 2 ^ 16 → sequenceNumber (mediaPacket number timestamp′ ssrc payload) ≡ number
   media-number h = read16 number h
 
   -- its timestamp is read
-  pub media-stamp : stamp < 2 ^ 32 → timestamp (mediaPacket number stamp source payload) ≡ stamp
-  media-stamp h = read32 stamp h
+  pub media-timestamp : timestamp′ < 2 ^ 32 → timestamp (mediaPacket number timestamp′ ssrc payload) ≡ timestamp′
+  media-timestamp h = read32 timestamp′ h
 
   -- refusals 6 to 9 do not apply to it
-  pub media-faultless : (p : ℕ) → length payload ≡ p → None (mediaTests p (mediaPacket number stamp source payload))
+  pub media-faultless : (p : ℕ) → length payload ≡ p → None (mediaTests p (mediaPacket number timestamp′ ssrc payload))
   media-faultless p h = (
-    le-ltb (length (mediaPacket number stamp source payload)) 12 (omega arith),
-    (refl, (refl, (ap not (eq-eqb (length (mediaPacket number stamp source payload) - 12) p (omega arith)), tt))),
+    le-ltb (length (mediaPacket number timestamp′ ssrc payload)) 12 (omega arith),
+    (refl, (refl, (ap not (eq-eqb (length (mediaPacket number timestamp′ ssrc payload) - 12) p (omega arith)), tt))),
   )
 
 -- ---- parity
 
-module _ (o : Outer) (stream l d p start : ℕ) (stamps : List ℕ) (payloads : List (List ℕ)) where
+module _ (o : Outer) (stream l d p snbase′ : ℕ) (timestamps : List ℕ) (payloads : List (List ℕ)) where
   -- its SNBase is read
-  pub parity-start : start < 2 ^ 16 → snbase (parityPacket o stream l d p start stamps payloads) ≡ start
-  parity-start h = read16 start h
+  pub parity-snbase : snbase′ < 2 ^ 16 → snbase (parityPacket o stream l d p snbase′ timestamps payloads) ≡ snbase′
+  parity-snbase h = read16 snbase′ h
 
   -- its timestamp recovery is read
-  pub parity-stamps : xorAll stamps < 2 ^ 32 → timestampRecovery (parityPacket o stream l d p start stamps payloads) ≡ xorAll stamps
-  parity-stamps h = read32 (xorAll stamps) h
-
-  -- its payload recovery is read
-  pub parity-payload : drop 28 (parityPacket o stream l d p start stamps payloads) ≡ xorPayloads p payloads
-  parity-payload = refl
+  pub parity-timestamp : xorAll timestamps < 2 ^ 32 → timestampRecovery (parityPacket o stream l d p snbase′ timestamps payloads) ≡ xorAll timestamps
+  parity-timestamp h = read32 (xorAll timestamps) h
 
   -- refusals 6 to 12 do not apply to it
   pub parity-faultless : stream ≤ 1 → p < 2 ^ 16 → noRow stream l ≡ false → length (xorPayloads p payloads) ≡ p
-      → None (parityTests stream l d p (parityPacket o stream l d p start stamps payloads))
+      → None (parityTests stream l d p (parityPacket o stream l d p snbase′ timestamps payloads))
   parity-faultless hs hp nr size = (
-    le-ltb (length (parityPacket o stream l d p start stamps payloads)) 28 (omega (arith, size)),
-    (refl, (refl, (ap not (eq-eqb (length (parityPacket o stream l d p start stamps payloads) - 28) p (omega (arith, size))), (fec, (recovery, (profile, tt)))))),
+    le-ltb (length (parityPacket o stream l d p snbase′ timestamps payloads)) 28 (omega (arith, size)),
+    (refl, (refl, (ap not (eq-eqb (length (parityPacket o stream l d p snbase′ timestamps payloads) - 28) p (omega (arith, size))), (fec, (recovery, (profile, tt)))))),
   )
     where
-      type : ℕ
-      type = byNa (naOf stream l d) 33
-
-      size-of : ℕ
-      size-of = byNa (naOf stream l d) p
-
       small : (b : Bool) (v m : ℕ) → v < m → 0 < m → cond b 0 v < m
       small true v m h z = z
       small false v m h z = h
@@ -93,11 +82,11 @@ module _ (o : Outer) (stream l d p start : ℕ) (stamps : List ℕ) (payloads : 
       size-lt : byNa (naOf stream l d) p < 2 ^ 16
       size-lt = small (eqb (naOf stream l d % 2) 0) p (2 ^ 16) hp (omega arith)
 
-      fec : badFec (parityPacket o stream l d p start stamps payloads) ≡ false
+      fec : badFec (parityPacket o stream l d p snbase′ timestamps payloads) ≡ false
       fec = rw (eq-eqb ((128 + byNa (naOf stream l d) 33) / 128) 1 (omega (arith, type-lt)), eq-eqb (stream * 64 / 128) 0 (omega arith), eq-eqb (stream * 64 / 8 % 8) 0 (omega arith), eq-eqb (stream * 64 % 8) 0 (omega arith))
 
-      recovery : badRecovery stream l d p (parityPacket o stream l d p start stamps payloads) ≡ false
+      recovery : badRecovery stream l d p (parityPacket o stream l d p snbase′ timestamps payloads) ≡ false
       recovery = rw (eq-eqb ((128 + byNa (naOf stream l d) 33) % 128) (byNa (naOf stream l d) 33) (omega (arith, type-lt)), eq-eqb (be16 (byNa (naOf stream l d) p / 256 % 256) (byNa (naOf stream l d) p % 256)) (byNa (naOf stream l d) p) (read16 (byNa (naOf stream l d) p) size-lt))
 
-      profile : badProfile stream l d (parityPacket o stream l d p start stamps payloads) ≡ false
+      profile : badProfile stream l d (parityPacket o stream l d p snbase′ timestamps payloads) ≡ false
       profile = rw (eq-eqb (stream * 64 / 64 % 2) stream (omega arith), eq-eqb (offsetOf stream l) (offsetOf stream l) refl, eq-eqb (naOf stream l d) (naOf stream l d) refl, nr)

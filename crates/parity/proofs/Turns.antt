@@ -1,4 +1,4 @@
--- A turn of each loop: one member more, one timestamp more, some rows more. Assumes nothing.
+-- A turn of each loop: one timestamp more, some rows more. Assumes nothing.
 use mathlib.Core.Path.{_≡_, refl, sym, ap, _∙_}
 use mathlib.Core.Bool.{true, false, cond}
 use mathlib.Core.List.{List, [], _∷_, _++_, append-nil, map}
@@ -11,21 +11,7 @@ use lib.Bits.{bitXor, xor-zero-r}
 use Rattle.sequence.specs.Lists.{upTo, keep, keep-append, map-append}
 use Rattle.xor.specs.Xor.{xorAll, xorAt, xorParts}
 use Rattle.xor.specs.Laws.{xor-assoc}
-use Rattle.parity.specs.Rows.{line, marked, places}
-
--- ---- members present
-line-more : (at offset j : ℕ) → line at offset (j + 1) ≡ line at offset j ++ ((at + j * offset) ∷ [])
-line-more at offset j = rw add-one (map-append (λ k. at + k * offset) (upTo j) (j ∷ []))
-
-module _ (marks : List ℕ) (at offset j : ℕ) (rows : List ℕ) (n : ℕ) (h : take n rows ≡ keep (marked marks) (line at offset j)) where
-  kept : keep (marked marks) (line at offset (j + 1)) ≡ take n rows ++ cond (marked marks (at + j * offset)) ((at + j * offset) ∷ []) []
-  kept = rw (line-more at offset j, keep-append (marked marks) (line at offset j) ((at + j * offset) ∷ []), h)
-
-  pub one-kept : n < length rows → marked marks (at + j * offset) ≡ true → take (n + 1) (set rows n (at + j * offset)) ≡ keep (marked marks) (line at offset (j + 1))
-  one-kept l e = rw (add-one n, take-suc-set rows n (at + j * offset)) (sym (kept ∙ rw e))
-
-  pub none-kept : marked marks (at + j * offset) ≡ false → take n rows ≡ keep (marked marks) (line at offset (j + 1))
-  none-kept e = sym (kept ∙ rw e (append-nil (take n rows)))
+use Rattle.parity.specs.Rows.{places}
 
 -- ---- timestamps
 xorAll-more : (l : List ℕ) (x : ℕ) → xorAll (l ++ (x ∷ [])) ≡ bitXor (xorAll l) x

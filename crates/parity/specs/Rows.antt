@@ -6,15 +6,6 @@ use Prim.Native.Nat.{ℕ, _+_, _*_, _<_, _≤_}
 use native.Mathlib.Omega.{arith}
 use lib.Dec.{eqb}
 use lib.ListN.{length, getD, take, drop}
-use Rattle.sequence.specs.Lists.{upTo, keep}
-
--- na positions from a place on, in steps of an offset
-abbrev pub line : (at offset na : ℕ) → List ℕ
-line at offset na = map (λ j. at + j * offset) (upTo na)
-
--- a mark other than 0
-abbrev pub marked : List ℕ → ℕ → Bool
-marked marks i = not (eqb (getD marks i 0) 0)
 
 -- where the rows of some positions begin, each p bytes long
 abbrev pub places : (p : ℕ) → List ℕ → List ℕ

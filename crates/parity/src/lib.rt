@@ -1,37 +1,12 @@
-// The exclusive-or over the members of a group that are present: of timestamps, and of payloads, ten at a pass, then four, then one.
+// The exclusive-or over rows of the store: of timestamps, and of payloads, ten at a pass, then four, then one.
 ghost use mathlib.Core.Path.{_≡_};
 ghost use mathlib.Core.List.{map};
 ghost use Prim.Native.Nat.{ℕ, _+_, _*_, _≤_, _<_};
 ghost use lib.ListN.{length, getD, take, drop, replicate};
 ghost use lib.Seq.{paste};
 ghost use lib.Bits.{bitXor};
-ghost use Rattle.sequence.specs.Lists.{keep};
 ghost use Rattle.xor.specs.Xor.{xorAll, xorParts};
-ghost use Rattle.parity.specs.Rows.{line, marked, places, Rows};
-
-// The positions of a group that are present, in order: the first n of rows.
-pub struct Members {
-    pub rows: [usize; 20],
-    pub n: usize,
-}
-
-pub fn members_present(marks: &[u8], at: usize, offset: usize, na: usize) -> Members
-    requires { ⌜ (offset ≤ 20) × (na ≤ 20) × ((j : ℕ) → j < na → at + j * offset < length (now marks)) ⌝ }
-    ensures { λ r. ⌜ (r .n ≤ na) × (length (r .rows) ≡ 20) × (take (r .n) (r .rows) ≡ keep (marked (now (marks .entry))) (line at offset na)) ⌝ }
-{
-    let mut rows = [0usize; 20];
-    let mut n = 0;
-    let mut j = 0;
-    while j < na {
-        let i = at + j * offset;
-        if marks[i] != 0 {
-            rows[n] = i;
-            n += 1;
-        }
-        j += 1;
-    }
-    Members { rows, n }
-}
+ghost use Rattle.parity.specs.Rows.{places, Rows};
 
 // A number xored with the timestamps of the first n rows.
 pub fn xor_timestamps(timestamps: &[u32], rows: &[usize], n: usize, with: u32) -> u32

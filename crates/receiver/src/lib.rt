@@ -1,34 +1,153 @@
 // The receiver: a window value with the calls of document 01 as methods. Each takes the value and hands the next one back
-// beside the answer; the card lends the store to every call. A call ends on every input, and a refused one changes nothing.
+// beside the answer; a call ends on every input, and a refused one changes nothing.
+//
+// The card lends the store. Of its table of records a call gets a hand, the records in use, each with its slot (crate
+// `table`): m rows at the front of some words, with room for one row more. A call's cost goes with what is in hand.
 use answer::Answer;
+use window::Record;
 use window::Window;
 ghost use mathlib.Core.Path.{_≡_};
-ghost use Rattle.settle.specs.Scan.{stored};
-ghost use Rattle.calls.specs.Call.{asked, opened, offeredMedia, offeredColumn, offeredRow, readOut, wroteColumn, wroteRow};
+ghost use mathlib.Core.Bool.{true};
+ghost use mathlib.Core.List.{List};
+ghost use Prim.Native.Nat.{_+_, _*_, _≤_};
+ghost use lib.ListN.{length};
+ghost use Rattle.rtp.specs.Fec.{column, row};
+ghost use Rattle.window.specs.declared.Record.{Record};
+ghost use Rattle.window.specs.Limits.{mostRecords};
+ghost use Rattle.window.specs.Store.{stored};
+ghost use Rattle.calls.specs.Call.{asked, wiped, opened, offeredMedia, offeredParity, readOut, wroteParity};
+ghost use Rattle.receiver.specs.Step.{Stepped, Wrote};
 
 // A window value.
 pub struct Receiver {
     pub window: Window,
 }
 
-// The answer, and the next window value.
+// The answer, the next window value, how many rows the hand has now, and whether the records differ from what they were.
 pub struct Step {
     pub answer: Answer,
     pub receiver: Receiver,
+    pub rows: usize,
+    pub changed: bool,
+}
+
+// The answer to an opening, the window value, and how many records of the table are to be set free.
+pub struct Opening {
+    pub answer: Answer,
+    pub receiver: Receiver,
+    pub records: usize,
 }
 
 // The answer with the next window value beside it.
-fn handed(answer: Answer, window: Window) -> Step
-    ensures { λ r. ⌜ (r .answer ≡ answer) × (r .receiver .window ≡ window) ⌝ }
+fn handed(answer: Answer, window: Window, rows: usize, changed: bool) -> Step
+    ensures { λ r. ⌜ r ≡ record { answer = answer; receiver = record { window = window }; rows = rows; changed = changed } ⌝ }
 {
     Step {
         answer,
         receiver: Receiver { window },
+        rows,
+        changed,
     }
 }
 
+// A hand of m rows and room for one more lies in `len` words.
+fn has_room(len: usize, m: usize) -> bool
+    ensures { λ r. ⌜ (r ≡ true → (m ≤ mostRecords) × ((m + 1) * 6 ≤ len)) × ((m ≤ mostRecords) × ((m + 1) * 6 ≤ len) → r ≡ true) ⌝ }
+{
+    if window::MOST_RECORDS < m {
+        return false;
+    }
+    (m + 1) * table::ROW <= len
+}
+
+// A parity datagram is offered on the port of a stream.
+fn offer_parity(
+    w: Window,
+    stream: u8,
+    datagram: &[u8],
+    media: &mut [u8],
+    timestamps: &mut [u32],
+    marks: &mut [u8],
+    parity: &mut [u8],
+    words: &mut [u32],
+    m: usize,
+    len: usize,
+) -> Step
+    ensures { λ r. ⌜ Stepped (offeredParity stream w (now (datagram .entry))) (w .k) len m (now (media .entry)) (now (timestamps .entry)) (now (marks .entry)) (now (parity .entry)) (now (words .entry))
+        (now (media .exit)) (now (timestamps .exit)) (now (marks .exit)) (now (parity .exit)) (now (words .exit)) r ⌝ }
+{
+    if !has_room(words.len(), m) {
+        return handed(Answer::Refused(4), w, m, false);
+    }
+    let e = m * table::ROW;
+    let r = offer::offer_parity(
+        w,
+        stream,
+        datagram,
+        media,
+        timestamps,
+        marks,
+        parity,
+        &mut words[..e],
+        m,
+        len,
+    );
+    let answer = r.answer;
+    let window = r.window;
+    let it = r.it;
+    if !r.held {
+        return handed(answer, window, m, r.changed);
+    }
+    let n = table::hold(words, m, it);
+    handed(answer, window, n, true)
+}
+
+// The parity packet of a group of a stream is written to the front of `out`.
+fn write_parity(
+    stream: u8,
+    w: Window,
+    snbase: u16,
+    sequence: u16,
+    timestamp: u32,
+    ssrc: u32,
+    media: &[u8],
+    timestamps: &[u32],
+    marks: &[u8],
+    parity: &[u8],
+    words: &mut [u32],
+    m: usize,
+    len: usize,
+    out: &mut [u8],
+) -> Step
+    requires { ⌜ stream ≤ 1 ⌝ }
+    ensures { λ r. ⌜ Wrote (wroteParity stream w snbase (record { sequence = sequence; timestamp = timestamp; ssrc = ssrc })) (w .k) len m (now (media .entry)) (now (timestamps .entry)) (now (marks .entry)) (now (parity .entry)) (now (words .entry)) (now (out .entry)) (now (out .exit)) r ⌝ }
+{
+    if !has_room(words.len(), m) {
+        return handed(Answer::Refused(4), w, m, false);
+    }
+    let e = m * table::ROW;
+    let answer = read::write_parity(
+        stream,
+        w,
+        snbase,
+        sequence,
+        timestamp,
+        ssrc,
+        media,
+        timestamps,
+        marks,
+        parity,
+        &mut words[..e],
+        m,
+        len,
+        out,
+    );
+    handed(answer, w, m, false)
+}
+
 impl Receiver {
-    // Opens a window over n positions from a base number; all that it needs of the store is set to zero.
+    // Opens a window over n positions from a base number; all that it needs of the store is set to zero, but for the records,
+    // which the caller sets free. The table has len records.
     pub fn open(
         base: u16,
         ssrc: u32,
@@ -41,15 +160,13 @@ impl Receiver {
         timestamps: &mut [u32],
         marks: &mut [u8],
         parity: &mut [u8],
-        streams: &mut [u8],
-        snbases: &mut [u16],
-        recoveries: &mut [u32],
-        uses: &mut [u8],
-    ) -> Step
-        ensures { λ r. ⌜ record { answer = r .answer; window = r .receiver .window; store = (stored (now (media .exit)) (now (timestamps .exit)) (now (marks .exit)) (now (parity .exit)) (now (streams .exit)) (now (snbases .exit)) (now (recoveries .exit)) (now (uses .exit))) }
-            ≡ opened (asked base ssrc l d p n k) (stored (now (media .entry)) (now (timestamps .entry)) (now (marks .entry)) (now (parity .entry)) (now (streams .entry)) (now (snbases .entry)) (now (recoveries .entry)) (now (uses .entry))) ⌝ }
+        len: usize,
+    ) -> Opening
+        ensures { λ r. ⌜ (r .records ≤ len) × ((t : List Record) → length t ≡ len
+            → record { answer = r .answer; window = r .receiver .window; store = stored (now (media .exit)) (now (timestamps .exit)) (now (marks .exit)) (now (parity .exit)) (wiped (r .records) t) }
+            ≡ opened (asked base ssrc l d p n k) (stored (now (media .entry)) (now (timestamps .entry)) (now (marks .entry)) (now (parity .entry)) t)) ⌝ }
     {
-        let r = opening::open(
+        let r = open::open(
             base,
             ssrc,
             l,
@@ -61,17 +178,18 @@ impl Receiver {
             timestamps,
             marks,
             parity,
-            streams,
-            snbases,
-            recoveries,
-            uses,
+            len,
         );
         let answer = r.answer;
         let window = r.window;
-        handed(answer, window)
+        Opening {
+            answer,
+            receiver: Receiver { window },
+            records: r.records,
+        }
     }
 
-    // A media datagram is offered: the count is of packets rebuilt.
+    // A media datagram is offered: the count is of packets rebuilt. The hand has m rows, the table len records.
     pub fn media(
         self,
         datagram: &[u8],
@@ -79,30 +197,32 @@ impl Receiver {
         timestamps: &mut [u32],
         marks: &mut [u8],
         parity: &mut [u8],
-        streams: &mut [u8],
-        snbases: &mut [u16],
-        recoveries: &mut [u32],
-        uses: &mut [u8],
+        words: &mut [u32],
+        m: usize,
+        len: usize,
     ) -> Step
-        ensures { λ r. ⌜ record { answer = r .answer; window = r .receiver .window; store = (stored (now (media .exit)) (now (timestamps .exit)) (now (marks .exit)) (now (parity .exit)) (now (streams .exit)) (now (snbases .exit)) (now (recoveries .exit)) (now (uses .exit))) }
-            ≡ offeredMedia (self .window) (now (datagram .entry)) (stored (now (media .entry)) (now (timestamps .entry)) (now (marks .entry)) (now (parity .entry)) (now (streams .entry)) (now (snbases .entry)) (now (recoveries .entry)) (now (uses .entry))) ⌝ }
+        ensures { λ r. ⌜ Stepped (offeredMedia (self .window) (now (datagram .entry))) (self .window .k) len m (now (media .entry)) (now (timestamps .entry)) (now (marks .entry)) (now (parity .entry)) (now (words .entry))
+            (now (media .exit)) (now (timestamps .exit)) (now (marks .exit)) (now (parity .exit)) (now (words .exit)) r ⌝ }
     {
         let w = self.window;
-        let r = offering::offer_media(
+        if !has_room(words.len(), m) {
+            return handed(Answer::Refused(4), w, m, false);
+        }
+        let e = m * table::ROW;
+        let r = offer::offer_media(
             w,
             datagram,
             media,
             timestamps,
             marks,
             parity,
-            streams,
-            snbases,
-            recoveries,
-            uses,
+            &mut words[..e],
+            m,
+            len,
         );
         let answer = r.answer;
         let window = r.window;
-        handed(answer, window)
+        handed(answer, window, m, r.changed)
     }
 
     // A column parity datagram is offered.
@@ -113,31 +233,26 @@ impl Receiver {
         timestamps: &mut [u32],
         marks: &mut [u8],
         parity: &mut [u8],
-        streams: &mut [u8],
-        snbases: &mut [u16],
-        recoveries: &mut [u32],
-        uses: &mut [u8],
+        words: &mut [u32],
+        m: usize,
+        len: usize,
     ) -> Step
-        ensures { λ r. ⌜ record { answer = r .answer; window = r .receiver .window; store = (stored (now (media .exit)) (now (timestamps .exit)) (now (marks .exit)) (now (parity .exit)) (now (streams .exit)) (now (snbases .exit)) (now (recoveries .exit)) (now (uses .exit))) }
-            ≡ offeredColumn (self .window) (now (datagram .entry)) (stored (now (media .entry)) (now (timestamps .entry)) (now (marks .entry)) (now (parity .entry)) (now (streams .entry)) (now (snbases .entry)) (now (recoveries .entry)) (now (uses .entry))) ⌝ }
+        ensures { λ r. ⌜ Stepped (offeredParity column (self .window) (now (datagram .entry))) (self .window .k) len m (now (media .entry)) (now (timestamps .entry)) (now (marks .entry)) (now (parity .entry)) (now (words .entry))
+            (now (media .exit)) (now (timestamps .exit)) (now (marks .exit)) (now (parity .exit)) (now (words .exit)) r ⌝ }
     {
         let w = self.window;
-        let r = offering::offer_parity(
+        offer_parity(
             w,
-            0,
+            rtp::COLUMN,
             datagram,
             media,
             timestamps,
             marks,
             parity,
-            streams,
-            snbases,
-            recoveries,
-            uses,
-        );
-        let answer = r.answer;
-        let window = r.window;
-        handed(answer, window)
+            words,
+            m,
+            len,
+        )
     }
 
     // A row parity datagram is offered.
@@ -148,31 +263,26 @@ impl Receiver {
         timestamps: &mut [u32],
         marks: &mut [u8],
         parity: &mut [u8],
-        streams: &mut [u8],
-        snbases: &mut [u16],
-        recoveries: &mut [u32],
-        uses: &mut [u8],
+        words: &mut [u32],
+        m: usize,
+        len: usize,
     ) -> Step
-        ensures { λ r. ⌜ record { answer = r .answer; window = r .receiver .window; store = (stored (now (media .exit)) (now (timestamps .exit)) (now (marks .exit)) (now (parity .exit)) (now (streams .exit)) (now (snbases .exit)) (now (recoveries .exit)) (now (uses .exit))) }
-            ≡ offeredRow (self .window) (now (datagram .entry)) (stored (now (media .entry)) (now (timestamps .entry)) (now (marks .entry)) (now (parity .entry)) (now (streams .entry)) (now (snbases .entry)) (now (recoveries .entry)) (now (uses .entry))) ⌝ }
+        ensures { λ r. ⌜ Stepped (offeredParity row (self .window) (now (datagram .entry))) (self .window .k) len m (now (media .entry)) (now (timestamps .entry)) (now (marks .entry)) (now (parity .entry)) (now (words .entry))
+            (now (media .exit)) (now (timestamps .exit)) (now (marks .exit)) (now (parity .exit)) (now (words .exit)) r ⌝ }
     {
         let w = self.window;
-        let r = offering::offer_parity(
+        offer_parity(
             w,
-            1,
+            rtp::ROW,
             datagram,
             media,
             timestamps,
             marks,
             parity,
-            streams,
-            snbases,
-            recoveries,
-            uses,
-        );
-        let answer = r.answer;
-        let window = r.window;
-        handed(answer, window)
+            words,
+            m,
+            len,
+        )
     }
 
     // The packet of a number is written to the front of `out` as a media datagram; the count is of bytes written.
@@ -183,36 +293,37 @@ impl Receiver {
         timestamps: &[u32],
         marks: &[u8],
         parity: &[u8],
-        streams: &[u8],
-        snbases: &[u16],
-        recoveries: &[u32],
-        uses: &[u8],
+        words: &mut [u32],
+        m: usize,
+        len: usize,
         out: &mut [u8],
     ) -> Step
-        ensures { λ r. ⌜ record { answer = r .answer; window = r .receiver .window; out = now (out .exit) }
-            ≡ readOut (self .window) number (stored (now (media .entry)) (now (timestamps .entry)) (now (marks .entry)) (now (parity .entry)) (now (streams .entry)) (now (snbases .entry)) (now (recoveries .entry)) (now (uses .entry))) (now (out .entry)) ⌝ }
+        ensures { λ r. ⌜ Wrote (readOut (self .window) number) (self .window .k) len m (now (media .entry)) (now (timestamps .entry)) (now (marks .entry)) (now (parity .entry)) (now (words .entry)) (now (out .entry)) (now (out .exit)) r ⌝ }
     {
         let w = self.window;
-        let answer = reading::read_out(
+        if !has_room(words.len(), m) {
+            return handed(Answer::Refused(4), w, m, false);
+        }
+        let e = m * table::ROW;
+        let answer = read::read_out(
             w,
             number,
             media,
             timestamps,
             marks,
             parity,
-            streams,
-            snbases,
-            recoveries,
-            uses,
+            &mut words[..e],
+            m,
+            len,
             out,
         );
-        handed(answer, w)
+        handed(answer, w, m, false)
     }
 
     // The parity datagram of the column that starts at a number is written to the front of `out`.
     pub fn write_column(
         self,
-        start: u16,
+        snbase: u16,
         sequence: u16,
         timestamp: u32,
         ssrc: u32,
@@ -220,19 +331,18 @@ impl Receiver {
         timestamps: &[u32],
         marks: &[u8],
         parity: &[u8],
-        streams: &[u8],
-        snbases: &[u16],
-        recoveries: &[u32],
-        uses: &[u8],
+        words: &mut [u32],
+        m: usize,
+        len: usize,
         out: &mut [u8],
     ) -> Step
-        ensures { λ r. ⌜ record { answer = r .answer; window = r .receiver .window; out = now (out .exit) }
-            ≡ wroteColumn (self .window) start (record { sequence = sequence; timestamp = timestamp; ssrc = ssrc }) (stored (now (media .entry)) (now (timestamps .entry)) (now (marks .entry)) (now (parity .entry)) (now (streams .entry)) (now (snbases .entry)) (now (recoveries .entry)) (now (uses .entry))) (now (out .entry)) ⌝ }
+        ensures { λ r. ⌜ Wrote (wroteParity column (self .window) snbase (record { sequence = sequence; timestamp = timestamp; ssrc = ssrc })) (self .window .k) len m (now (media .entry)) (now (timestamps .entry)) (now (marks .entry)) (now (parity .entry)) (now (words .entry)) (now (out .entry)) (now (out .exit)) r ⌝ }
     {
         let w = self.window;
-        let answer = reading::write_column(
+        write_parity(
+            rtp::COLUMN,
             w,
-            start,
+            snbase,
             sequence,
             timestamp,
             ssrc,
@@ -240,19 +350,17 @@ impl Receiver {
             timestamps,
             marks,
             parity,
-            streams,
-            snbases,
-            recoveries,
-            uses,
+            words,
+            m,
+            len,
             out,
-        );
-        handed(answer, w)
+        )
     }
 
     // The parity datagram of the row that starts at a number is written to the front of `out`.
     pub fn write_row(
         self,
-        start: u16,
+        snbase: u16,
         sequence: u16,
         timestamp: u32,
         ssrc: u32,
@@ -260,19 +368,18 @@ impl Receiver {
         timestamps: &[u32],
         marks: &[u8],
         parity: &[u8],
-        streams: &[u8],
-        snbases: &[u16],
-        recoveries: &[u32],
-        uses: &[u8],
+        words: &mut [u32],
+        m: usize,
+        len: usize,
         out: &mut [u8],
     ) -> Step
-        ensures { λ r. ⌜ record { answer = r .answer; window = r .receiver .window; out = now (out .exit) }
-            ≡ wroteRow (self .window) start (record { sequence = sequence; timestamp = timestamp; ssrc = ssrc }) (stored (now (media .entry)) (now (timestamps .entry)) (now (marks .entry)) (now (parity .entry)) (now (streams .entry)) (now (snbases .entry)) (now (recoveries .entry)) (now (uses .entry))) (now (out .entry)) ⌝ }
+        ensures { λ r. ⌜ Wrote (wroteParity row (self .window) snbase (record { sequence = sequence; timestamp = timestamp; ssrc = ssrc })) (self .window .k) len m (now (media .entry)) (now (timestamps .entry)) (now (marks .entry)) (now (parity .entry)) (now (words .entry)) (now (out .entry)) (now (out .exit)) r ⌝ }
     {
         let w = self.window;
-        let answer = reading::write_row(
+        write_parity(
+            rtp::ROW,
             w,
-            start,
+            snbase,
             sequence,
             timestamp,
             ssrc,
@@ -280,12 +387,10 @@ impl Receiver {
             timestamps,
             marks,
             parity,
-            streams,
-            snbases,
-            recoveries,
-            uses,
+            words,
+            m,
+            len,
             out,
-        );
-        handed(answer, w)
+        )
     }
 }

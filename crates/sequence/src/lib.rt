@@ -11,10 +11,10 @@ pub fn position(base: u16, number: u16) -> u16
 }
 
 // The next member of a group, Offset further on.
-pub fn next(number: u16, offset: u8) -> u16
+pub fn next(number: u16, offset: u16) -> u16
     ensures { λ r. ⌜ r ≡ (number + offset) % 2 ^ 16 ⌝ }
 {
-    std::num::wrapping_add_u16(number, offset as u16)
+    std::num::wrapping_add_u16(number, offset)
 }
 
 // The j-th member of the group that starts at SNBase.

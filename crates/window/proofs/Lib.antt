@@ -1,3 +1,2 @@
 pub mod Product
 pub mod Turn
-pub mod Record

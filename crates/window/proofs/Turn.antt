@@ -4,7 +4,7 @@ use mathlib.Core.Bool.{Bool, true, false, cond, _&&_, _||_}
 use Prim.Native.Nat.{ℕ, _+_, _≤_}
 use native.Mathlib.Omega.{arith}
 use mir.Val.{boolByte}
-use Rattle.sequence.specs.Lists.{upTo, all, any, count, all-more, any-more, count-more}
+use Rattle.sequence.specs.Lists.{upTo, all, any, count, all-more, any-more, count-more, count-le, length-upTo}
 
 -- a flag as a number
 pub flag-le : (t : Bool) → boolByte t ≤ 1
@@ -24,3 +24,7 @@ module _ (test : ℕ → Bool) (i : ℕ) where
 
   pub turn-count : (s : ℕ) → s ≡ count test (upTo i) → s + boolByte (test i) ≡ count test (upTo (i + 1))
   turn-count s e = rw (e, flag-cond) (sym (count-more test i))
+
+-- no more are counted than there are
+pub few : (test : ℕ → Bool) (n : ℕ) → count test (upTo n) ≤ n
+few test n = omega (arith, count-le test (upTo n), length-upTo n)

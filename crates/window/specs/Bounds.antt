@@ -9,7 +9,7 @@ use borrow.Author.Tests.{ltb-false, leb-true, eqb-true, not-false}
 use Rattle.answer.specs.First.{first, first-none}
 use Rattle.sequence.specs.Lists.{and-split, or-split}
 use Rattle.window.specs.declared.Window.{Window}
-use Rattle.window.specs.Limits.{badProfile, badPayload, oneToSeven, setUpTests}
+use Rattle.window.specs.Limits.{mostSide, mostMatrix, mostPositions, mostRecords, badProfile, badPayload, oneToSeven, setUpTests}
 use Rattle.window.specs.Store.{Store, shortStore}
 
 -- ---- refusals 1 to 3
@@ -17,10 +17,10 @@ use Rattle.window.specs.Store.{Store, shortStore}
 -- a profile within its limits
 pub record Profile (l d : ℕ) : Type 0 where
   pub l-low : 1 ≤ l
-  pub l-high : l ≤ 20
+  pub l-high : l ≤ mostSide
   pub d-low : 4 ≤ d
-  pub d-high : d ≤ 20
-  pub area : l * d ≤ 100
+  pub d-high : d ≤ mostSide
+  pub area : l * d ≤ mostMatrix
 
 -- a window value whose set-up numbers are within their limits
 pub record SetUp (w : Window) : Type 0 where
@@ -28,9 +28,9 @@ pub record SetUp (w : Window) : Type 0 where
   pub p-low : 188 ≤ w .p
   pub p-high : w .p ≤ 1428
   pub room : w .l * w .d ≤ w .n
-  pub n-high : w .n ≤ 400
+  pub n-high : w .n ≤ mostPositions
   pub k-low : 1 ≤ w .k
-  pub k-high : w .k ≤ 128
+  pub k-high : w .k ≤ mostRecords
 
 pub sides-good : (l d : ℕ) → (ltb l 1 || ltb 20 l || ltb d 4 || ltb 20 d) ≡ false → (1 ≤ l) × (l ≤ 20) × (4 ≤ d) × (d ≤ 20)
 sides-good l d e =
@@ -90,18 +90,12 @@ pub record Sized (w : Window) (s : Store) : Type 0 where
   pub timestamps-long : w .n ≤ length (s .timestamps)
   pub marks-long : w .n ≤ length (s .marks)
   pub parity-long : w .k * w .p ≤ length (s .parity)
-  pub streams-long : w .k ≤ length (s .streams)
-  pub snbases-long : w .k ≤ length (s .snbases)
-  pub recoveries-long : w .k ≤ length (s .recoveries)
-  pub uses-long : w .k ≤ length (s .uses)
+  pub records-long : w .k ≤ length (s .records)
 
 -- where refusal 4 does not apply
 pub sizes-good : (w : Window) (s : Store) → shortStore w s ≡ false → Sized w s
 sizes-good w s e =
-    let s7 = or-split _ _ e in
-    let s6 = or-split _ _ (s7 .0) in
-    let s5 = or-split _ _ (s6 .0) in
-    let s4 = or-split _ _ (s5 .0) in
+    let s4 = or-split _ _ e in
     let s3 = or-split _ _ (s4 .0) in
     let s2 = or-split _ _ (s3 .0) in
     let s1 = or-split _ _ (s2 .0) in
@@ -110,8 +104,5 @@ sizes-good w s e =
       timestamps-long = ltb-false _ _ (s1 .1);
       marks-long = ltb-false _ _ (s2 .1);
       parity-long = ltb-false _ _ (s3 .1);
-      streams-long = ltb-false _ _ (s4 .1);
-      snbases-long = ltb-false _ _ (s5 .1);
-      recoveries-long = ltb-false _ _ (s6 .1);
-      uses-long = ltb-false _ _ (s7 .1);
+      records-long = ltb-false _ _ (s4 .1);
     }

@@ -1,7 +1,8 @@
+pub mod Record
 pub mod Limits
 pub mod Store
 pub mod Bounds
-pub mod Plain
 pub mod Group
+pub mod Plain
 pub mod Order
 pub mod InOrder

@@ -5,6 +5,18 @@ use Prim.Native.Nat.{ℕ, _*_, _/_, _%_}
 use lib.Dec.{eqb, leb, ltb}
 use Rattle.window.specs.declared.Window.{Window}
 
+-- bits of a sequence number
+abbrev pub width : ℕ
+width = 16
+
+-- most columns, and most rows, of a parity matrix
+abbrev pub mostSide : ℕ
+mostSide = 20
+
+-- most packets of a parity matrix
+abbrev pub mostMatrix : ℕ
+mostMatrix = 100
+
 -- most positions of a window
 abbrev pub mostPositions : ℕ
 mostPositions = 400
@@ -13,9 +25,17 @@ mostPositions = 400
 abbrev pub mostRecords : ℕ
 mostRecords = 128
 
+-- more than a window's packets and records together
+abbrev pub mostCounted : ℕ
+mostCounted = 1000
+
+-- least packets that a parity packet in hand waits for
+abbrev pub leastMissing : ℕ
+leastMissing = 2
+
 -- 1: not 1 ≤ L ≤ 20, 4 ≤ D ≤ 20, L × D ≤ 100 (004, 4.5.3)
 abbrev pub badProfile : Window → Bool
-badProfile w = ltb (w .l) 1 || ltb 20 (w .l) || ltb (w .d) 4 || ltb 20 (w .d) || ltb 100 (w .l * w .d)
+badProfile w = ltb (w .l) 1 || ltb mostSide (w .l) || ltb (w .d) 4 || ltb mostSide (w .d) || ltb mostMatrix (w .l * w .d)
 
 -- p bytes are k units, k from 1 to 7
 abbrev pub oneToSeven : (unit p : ℕ) → Bool

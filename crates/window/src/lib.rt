@@ -1,24 +1,31 @@
 // The window value: its set-up numbers, its limits, what the lent store needs, and whether that store is in order.
 ghost use mathlib.Core.Path.{_≡_};
-ghost use mathlib.Core.Bool.{not, _&&_, _||_};
-ghost use mathlib.Core.List.{List};
-ghost use Prim.Native.Nat.{ℕ, _+_, _*_, _<_, _≤_};
-ghost use lib.Dec.{eqb, leb, ltb};
-ghost use lib.ListN.{length, getD};
+ghost use mathlib.Core.Bool.{not, _||_};
+ghost use Prim.Native.Nat.{_+_, _*_, _<_, _≤_};
+ghost use lib.Dec.{ltb};
+ghost use lib.ListN.{length};
 ghost use Rattle.answer.specs.First.{first};
-ghost use Rattle.sequence.specs.Lists.{upTo, all, any, keep, count};
-ghost use Rattle.rtp.specs.Faults.{noRow};
-ghost use Rattle.window.specs.Limits.{oneToSeven, setUpTests};
+ghost use Rattle.sequence.specs.Lists.{upTo, count};
+ghost use Rattle.window.specs.Limits.{mostSide, mostMatrix, mostPositions, mostRecords, oneToSeven, setUpTests};
 ghost use Rattle.window.specs.Store.{shortSizes};
-ghost use Rattle.window.specs.Bounds.{Profile, SetUp};
-ghost use Rattle.window.specs.Plain.{groupOf, Inside};
+ghost use Rattle.window.specs.Bounds.{SetUp};
 ghost use Rattle.window.specs.Group.{inside};
-ghost use Rattle.window.specs.Order.{isMark, disorder};
-ghost use Rattle.window.specs.InOrder.{tables, recordGood};
+ghost use Rattle.window.specs.Order.{isPresent, marksGood, shapeGood};
 
+// Most columns, and most rows, of a parity matrix.
+pub const MOST_SIDE: usize = 20;
+
+// Most packets of a parity matrix.
+pub const MOST_MATRIX: usize = 100;
+
+// Most positions of a window.
 pub const MOST_POSITIONS: usize = 400;
 
+// Most records for parity in hand.
 pub const MOST_RECORDS: usize = 128;
+
+// Least packets that a parity packet in hand waits for.
+pub const LEAST_MISSING: usize = 2;
 
 #[repr(C)]
 pub struct Window {
@@ -46,22 +53,29 @@ pub struct Sizes {
     pub timestamps: usize,
     pub marks: usize,
     pub parity: usize,
-    pub streams: usize,
-    pub snbases: usize,
-    pub recoveries: usize,
-    pub uses: usize,
+    pub records: usize,
+}
+
+// A parity packet in hand: its stream (0 a column, 1 a row), in-use mark, SNBase and timestamp recovery, in eight bytes with
+// no gap. Its payload stands at the same index of the parity bytes.
+#[repr(C)]
+pub struct Record {
+    pub stream: u8,
+    pub in_use: u8,
+    pub snbase: u16,
+    pub timestamp_recovery: u32,
 }
 
 // ---- refusals 1 to 3: the set-up numbers
 
 // 1: L, D or the matrix out of its limits.
 fn bad_profile(l: usize, d: usize) -> bool
-    ensures { λ r. ⌜ r ≡ (ltb l 1 || ltb 20 l || ltb d 4 || ltb 20 d || ltb 100 (l * d)) ⌝ }
+    ensures { λ r. ⌜ r ≡ (ltb l 1 || ltb mostSide l || ltb d 4 || ltb mostSide d || ltb mostMatrix (l * d)) ⌝ }
 {
-    if (l < 1) | (20 < l) | (d < 4) | (20 < d) {
+    if (l < 1) | (MOST_SIDE < l) | (d < 4) | (MOST_SIDE < d) {
         return true;
     }
-    100 < l * d
+    MOST_MATRIX < l * d
 }
 
 // P is one to seven units.
@@ -81,8 +95,8 @@ fn bad_payload(p: usize) -> bool
 
 // 3: the matrix does not fit the window, or too many positions, or too few or too many records.
 fn bad_room(l: usize, d: usize, n: usize, k: usize) -> bool
-    requires { ⌜ (l ≤ 20) × (d ≤ 20) ⌝ }
-    ensures { λ r. ⌜ r ≡ (ltb n (l * d) || ltb 400 n || ltb k 1 || ltb 128 k) ⌝ }
+    requires { ⌜ (l ≤ mostSide) × (d ≤ mostSide) ⌝ }
+    ensures { λ r. ⌜ r ≡ (ltb n (l * d) || ltb mostPositions n || ltb k 1 || ltb mostRecords k) ⌝ }
 {
     (n < l * d) | (MOST_POSITIONS < n) | (k < 1) | (MOST_RECORDS < k)
 }
@@ -113,173 +127,86 @@ impl Window {
             | (z.timestamps < self.n)
             | (z.marks < self.n)
             | (z.parity < self.k * self.p)
-            | (z.streams < self.k)
-            | (z.snbases < self.k)
-            | (z.recoveries < self.k)
-            | (z.uses < self.k)
+            | (z.records < self.k)
     }
 }
 
-// ---- refusal 5: whether the store is in order
+// ---- refusal 5: the marks, and the shape of a record
 
-// Every one of the first n marks is 0 or 1.
-fn good_marks(marks: &[u8], n: usize) -> bool
-    requires { ⌜ n ≤ length (now marks) ⌝ }
-    ensures { λ r. ⌜ r ≡ all (λ i. isMark (getD (now (marks .entry)) i 0)) (upTo n) ⌝ }
+// Where a block of marks ends that starts at a position below n.
+fn block_end(at: usize, n: usize) -> usize
+    requires { ⌜ at < n ⌝ }
+    ensures { λ r. ⌜ (at < r) × (r ≤ n) × (r ≤ at + 128) ⌝ }
 {
-    let mut good = true;
-    let mut i = 0;
-    while i < n {
-        good = good & (marks[i] <= 1);
+    if n - at < 128 {
+        return n;
+    }
+    at + 128
+}
+
+// How many marks of a block are 1: a sum in 8 bits, so that it is made of sixteen marks at once.
+fn ones_between(marks: &[u8], from: usize, to: usize) -> u8
+    requires { ⌜ (from ≤ to) × (to ≤ length (now marks)) × (to ≤ from + 128) ⌝ }
+    ensures { λ r. ⌜ count (isPresent (now (marks .entry))) (upTo from) + r ≡ count (isPresent (now (marks .entry))) (upTo to) ⌝ }
+{
+    let mut ones: u8 = 0;
+    let mut i = from;
+    while i < to {
+        ones += (marks[i] == 1) as u8;
         i += 1;
     }
-    good
-}
-
-// How many of the first n marks are 1: a sum in 16 bits, so that it is made of eight marks at once.
-pub fn count_ones(marks: &[u8], n: usize) -> usize
-    requires { ⌜ (n ≤ length (now marks)) × (n ≤ 400) ⌝ }
-    ensures { λ r. ⌜ r ≡ count (λ i. eqb (getD (now (marks .entry)) i 0) 1) (upTo n) ⌝ }
-{
-    let mut ones: u16 = 0;
-    let mut i = 0;
-    while i < n {
-        ones += (marks[i] == 1) as u16;
-        i += 1;
-    }
-    ones as usize
-}
-
-// How many marks are 0 at `at` and at the na - 1 places that follow it in steps of `offset`.
-fn zeros_along(marks: &[u8], at: usize, offset: usize, na: usize) -> usize
-    requires { ⌜ (offset ≤ 20) × (na ≤ 20) × ((j : ℕ) → j < na → at + j * offset < length (now marks)) ⌝ }
-    ensures { λ r. ⌜ r ≡ count (λ j. eqb (getD (now (marks .entry)) (at + j * offset) 0) 0) (upTo na) ⌝ }
-{
-    let mut zeros: usize = 0;
-    let mut j = 0;
-    while j < na {
-        zeros += (marks[at + j * offset] == 0) as usize;
-        j += 1;
-    }
-    zeros
-}
-
-// Every member of a group lies in the window: the last member does, counted on from the first with no wrap.
-pub fn group_inside(base: u16, n: usize, stream: u8, start: u16, l: usize, d: usize) -> bool
-    requires { ⌜ Profile l d × (n ≤ 400) ⌝ }
-    ensures { λ r. ⌜ r ≡ all (λ i. ltb i n) (groupOf base l d stream start) ⌝ }
-{
-    let offset = rtp::offset_of(stream, l);
-    let na = rtp::na_of(stream, l, d);
-    sequence::position(base, start) as usize + (na - 1) * offset < n
-}
-
-// How many members of a group that lies in the window are missing.
-pub fn lack(base: u16, marks: &[u8], stream: u8, start: u16, l: usize, d: usize) -> usize
-    requires { ⌜ Profile l d × Inside base l d stream start 400 × Inside base l d stream start (length (now marks)) ⌝ }
-    ensures { λ r. ⌜ r ≡ length (keep (λ i. eqb (getD (now (marks .entry)) i 0) 0) (groupOf base l d stream start)) ⌝ }
-{
-    let at = sequence::position(base, start) as usize;
-    zeros_along(
-        marks,
-        at,
-        rtp::offset_of(stream, l),
-        rtp::na_of(stream, l, d),
-    )
-}
-
-// One of the first m records is in use and names the group of a stream that starts at an SNBase.
-pub fn held(streams: &[u8], snbases: &[u16], uses: &[u8], m: usize, stream: u8, start: u16) -> bool
-    requires { ⌜ (m ≤ length (now streams)) × (m ≤ length (now snbases)) × (m ≤ length (now uses)) ⌝ }
-    ensures { λ r. ⌜ r ≡ any (λ q. eqb (getD (now (uses .entry)) q 0) 1 && (eqb (getD (now (streams .entry)) q 0) stream && eqb (getD (now (snbases .entry)) q 0) start)) (upTo m) ⌝ }
-{
-    let mut found = false;
-    let mut q = 0;
-    while q < m {
-        found = found | ((uses[q] == 1) & ((streams[q] == stream) & (snbases[q] == start)));
-        q += 1;
-    }
-    found
-}
-
-// A record in use before record r names r's group.
-pub fn repeats(streams: &[u8], snbases: &[u16], uses: &[u8], r: usize) -> bool
-    requires { ⌜ (r < length (now streams)) × (r < length (now snbases)) × (r < length (now uses)) ⌝ }
-    ensures { λ again. ⌜ again ≡ any (λ q. eqb (getD (now (uses .entry)) q 0) 1 && (eqb (getD (now (streams .entry)) q 0) (getD (now (streams .entry)) r 0) && eqb (getD (now (snbases .entry)) q 0) (getD (now (snbases .entry)) r 0))) (upTo r) ⌝ }
-{
-    held(streams, snbases, uses, r, streams[r], snbases[r])
+    ones
 }
 
 impl Window {
-    // A stream and an SNBase name a column, or a row where rows are permitted, that lies in the window.
-    fn shape_good(self, stream: u8, start: u16) -> bool
-        requires { ⌜ SetUp self ⌝ }
-        ensures { λ r. ⌜ r ≡ (leb stream 1 && not (noRow stream (self .l)) && inside self stream start) ⌝ }
+    // Every present mark is 0 or 1.
+    pub fn marks_good(self, marks: &[u8]) -> bool
+        requires { ⌜ self .n ≤ length (now marks) ⌝ }
+        ensures { λ r. ⌜ r ≡ marksGood self (now (marks .entry)) ⌝ }
     {
-        (stream <= 1)
-            & !rtp::no_row(stream, self.l)
-            & group_inside(self.base, self.n, stream, start, self.l, self.d)
-    }
-
-    // Record r is free, or it is of good shape, the first of its group, and waits for two packets or more.
-    fn record_good(
-        self,
-        marks: &[u8],
-        streams: &[u8],
-        snbases: &[u16],
-        uses: &[u8],
-        r: usize,
-    ) -> bool
-        requires { ⌜ SetUp self × (self .n ≤ length (now marks)) × (r < length (now streams)) × (r < length (now snbases)) × (r < length (now uses)) ⌝ }
-        ensures { λ good. ⌜ good ≡ recordGood self (tables (now (marks .entry)) (now (streams .entry)) (now (snbases .entry)) (now (uses .entry))) r ⌝ }
-    {
-        if uses[r] != 1 {
-            return true;
-        }
-        let stream = streams[r];
-        let start = snbases[r];
-        if !self.shape_good(stream, start) {
-            return false;
-        }
-        !repeats(streams, snbases, uses, r)
-            & (1 < lack(self.base, marks, stream, start, self.l, self.d))
-    }
-
-    // Every record is good; where none of them is in use, that is known without a look at each.
-    fn records_good(
-        self,
-        marks: &[u8],
-        streams: &[u8],
-        snbases: &[u16],
-        uses: &[u8],
-        used: usize,
-    ) -> bool
-        requires { ⌜ SetUp self × (self .n ≤ length (now marks)) × (self .k ≤ length (now streams)) × (self .k ≤ length (now snbases)) × (self .k ≤ length (now uses)) × (used ≡ count (λ i. eqb (getD (now uses) i 0) 1) (upTo (self .k))) ⌝ }
-        ensures { λ good. ⌜ good ≡ all (recordGood self (tables (now (marks .entry)) (now (streams .entry)) (now (snbases .entry)) (now (uses .entry)))) (upTo (self .k)) ⌝ }
-    {
-        if used == 0 {
-            return true;
-        }
-        let k = self.k;
+        let n = self.n;
         let mut good = true;
-        let mut r = 0;
-        while r < k {
-            good = good & self.record_good(marks, streams, snbases, uses, r);
-            r += 1;
+        let mut i = 0;
+        while i < n {
+            good = good & (marks[i] <= 1);
+            i += 1;
         }
         good
     }
 
-    // The store is in order: marks, records and counts.
-    pub fn in_order(self, marks: &[u8], streams: &[u8], snbases: &[u16], uses: &[u8]) -> bool
-        requires { ⌜ SetUp self × (self .n ≤ length (now marks)) × (self .k ≤ length (now streams)) × (self .k ≤ length (now snbases)) × (self .k ≤ length (now uses)) ⌝ }
-        ensures { λ r. ⌜ ((m t p c : List ℕ) → r ≡ not (disorder self (record { media = m; timestamps = t; marks = now (marks .entry); parity = p; streams = now (streams .entry); snbases = now (snbases .entry); recoveries = c; uses = now (uses .entry) }))) ⌝ }
+    // How many positions are present, block by block.
+    pub fn count_present(self, marks: &[u8]) -> usize
+        requires { ⌜ self .n ≤ length (now marks) ⌝ }
+        ensures { λ r. ⌜ r ≡ count (isPresent (now (marks .entry))) (upTo (self .n)) ⌝ }
     {
         let n = self.n;
-        let k = self.k;
-        let used = count_ones(uses, k);
-        (good_marks(marks, n) & good_marks(uses, k))
-            & self.records_good(marks, streams, snbases, uses, used)
-            & ((self.present == count_ones(marks, n)) & (self.in_use == used))
+        let mut ones = 0;
+        let mut at = 0;
+        while at < n {
+            let to = block_end(at, n);
+            ones += ones_between(marks, at, to) as usize;
+            at = to;
+        }
+        ones
+    }
+}
+
+impl Window {
+    // Every member of a group lies in the window: the last member does, counted on from the first with no wrap.
+    pub fn group_inside(self, stream: u8, snbase: u16) -> bool
+        requires { ⌜ SetUp self ⌝ }
+        ensures { λ r. ⌜ r ≡ inside self stream snbase ⌝ }
+    {
+        let offset = rtp::offset_of(stream, self.l);
+        let na = rtp::na_of(stream, self.l, self.d);
+        sequence::position(self.base, snbase) as usize + (na - 1) * offset < self.n
+    }
+
+    // A stream and an SNBase name a column, or a row where rows are permitted, that lies in the window.
+    pub fn shape_good(self, stream: u8, snbase: u16) -> bool
+        requires { ⌜ SetUp self ⌝ }
+        ensures { λ r. ⌜ r ≡ shapeGood self stream snbase ⌝ }
+    {
+        (stream <= 1) & !rtp::no_row(stream, self.l) & self.group_inside(stream, snbase)
     }
 }

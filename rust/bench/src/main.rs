@@ -121,6 +121,30 @@ fn holds(k: usize, p: usize) -> f64 {
     median(1001, || waiting.clone(), |r| assert_eq!(r.row(&row), Ok(0)))
 }
 
+/// A receiver with `used` records in use: rows of four that start at every third position, of which two in three are missing.
+fn waiting(n: usize, k: usize, used: usize, p: usize) -> (Receiver, Stretch) {
+    let (mut receiver, stretch) = filled(4, 4, p, n, k, &|i| (i % 3 != 2 && i < 3 * used + 1) || i == n - 1);
+    for i in 0..used {
+        assert_eq!(receiver.row(&parity(&stretch, 4, 4, true, 3 * i)), Ok(0));
+    }
+    (receiver, stretch)
+}
+
+/// A media packet that rebuilds nothing, with some records in use.
+fn stores(n: usize, k: usize, used: usize, p: usize) -> f64 {
+    let (receiver, stretch) = waiting(n, k, used, p);
+    let last = media(&stretch, n - 1);
+    median(1001, || receiver.clone(), |r| assert_eq!(r.media(&last), Ok(0)))
+}
+
+/// A row parity packet that finds none of its group missing, with some records in use.
+fn finds_none(n: usize, k: usize, used: usize, p: usize) -> f64 {
+    let (mut receiver, stretch) = waiting(n, k, used, p);
+    receiver.media(&media(&stretch, n - 1)).unwrap();
+    let row = parity(&stretch, 4, 4, true, n - 4);
+    median(1001, || (), |_| assert_eq!(receiver.row(&row), Ok(0)))
+}
+
 /// A datagram that is refused by its length, after the store was found in order.
 fn refuses(n: usize, k: usize) -> f64 {
     let (mut receiver, _) = filled(10, 10, 188, n, k, &|_| false);
@@ -143,6 +167,14 @@ fn main() {
     {
         let (each, copy) = good_weather(n, k, p);
         println!("  n {n:3}, K {k:3}, P {p:4}   {each:7.0} ns   memcpy of the payloads {copy:5.0} ns   {:.1} times", each / copy);
+    }
+    println!("\na media packet that rebuilds nothing, into a cold copy of the store, L 4, D 4, P 1316; a row parity packet that finds none missing");
+    for (n, k, used) in [(200, 40, 0), (200, 40, 1), (200, 40, 10), (400, 128, 0), (400, 128, 1), (400, 128, 10), (400, 128, 100)] {
+        println!(
+            "  n {n:3}, K {k:3}, {used:3} in use  {:7.0} ns {:7.0} ns",
+            stores(n, k, used, 1316),
+            finds_none(n, k, used, 1316)
+        );
     }
     println!("\na media packet that rebuilds one other, n 100, K 40");
     for (na, p) in [(5, 1316), (10, 1316), (20, 1316), (10, 188)] {

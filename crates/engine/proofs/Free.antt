@@ -1,0 +1,154 @@
+-- Spent rows set free are the spent records released, of every table that the hand is apart from. Assumes nothing.
+use mathlib.Core.Path.{_≡_, refl, sym, ap, subst, _∙_}
+use mathlib.Core.Bool.{Bool, true, false, cond, _&&_}
+use mathlib.Core.List.{List, [], _∷_}
+use Prim.Native.Nat.{ℕ, zero, suc, _+_, _*_, _-_, _<_, _≤_}
+use native.Mathlib.Nat.{mul-le-mul-right, suc-mul}
+use native.Mathlib.Omega.{arith}
+use lib.Dec.{eqb}
+use lib.ListN.{length, getD, set, replicate, length-set, length-replicate}
+use lib.Seq.{getD-set-same, getD-set-other, paste, length-paste}
+use borrow.Author.Tests.{eqb-true, eqb-false}
+use Rattle.window.specs.declared.Record.{Record}
+use Rattle.window.specs.declared.Window.{Window}
+use Rattle.window.specs.Record.{blank}
+use Rattle.window.specs.Store.{recordAt, stored}
+use Rattle.window.specs.Group.{group, missing}
+use Rattle.window.specs.Order.{used}
+use Rattle.calls.specs.State.{State, scene, recount, release}
+use Rattle.calls.specs.Settle.{spent, releaseSpent, releaseBelow, releaseAll}
+use Rattle.table.specs.View.{Row, nobody, slotAt, missingAt, itAt, put, slots, scatter}
+use Rattle.table.specs.Apart.{Free, Fits, get-scatter, set-scatter, apart-scatter, slots-put, same-slot, same-fits, same-length}
+use Rattle.table.specs.Fold.{below, rows, fold}
+use Rattle.table.specs.Sound.{SoundRow, Sound}
+use Rattle.group.proofs.Rows.{row-ends}
+use Rattle.engine.specs.Rows.{Desk, rowSpent, freeRow, freeSpent, freeBelow}
+use Rattle.engine.proofs.Same.{recount-twice}
+
+-- a desk
+abbrev pub desk : Window → (parity : List ℕ) → List Row → Desk
+desk w parity hs = record { window = w; parity = parity; rows = hs }
+
+-- ---- what is kept while rows are set free
+pub record Keeps (w : Window) (marks : List ℕ) (np : ℕ) (hs : List Row) (d : Desk) : Type 0 where
+  pub same : d .window ≡ recount w (d .window .present) (d .window .«in_use»)
+  pub present : d .window .present ≡ w .present
+  pub same-slots : slots (d .rows) ≡ slots hs
+  pub long : length (d .parity) ≡ np
+  pub sound : Sound w marks (d .rows)
+
+module _ (w : Window) (marks : List ℕ) (hs : List Row) where
+  -- a row set free is not in use, and the others are as they were
+  sound-put : (gs : List Row) (i : ℕ) → i < length gs → Sound w marks gs → Sound w marks (put gs i blank)
+  sound-put gs i l s = record { at = λ j h u. row j (simp length-set at h) u (eqb j i) refl }
+    where
+      row : (j : ℕ) → j < length gs → used (itAt (put gs i blank) j) ≡ true → (t : Bool) → eqb j i ≡ t → SoundRow w marks (getD (put gs i blank) j nobody)
+      row j h u true e =
+          let z : j ≡ i = eqb-true j i e in
+          let free : used (itAt (put gs i blank) j) ≡ false = ap (λ (n : ℕ). used (itAt (put gs i blank) n)) z ∙ ap (λ (r : Row). used (r .it)) (getD-set-same gs i _ nobody l) in
+          absurd (let q : _≡_ {A = Bool} false true = sym free ∙ u in let n : _≡_ {A = ℕ} 0 1 = cc in omega arith)
+      row j h u false e =
+          let n = eqb-false j i e in
+          let o = getD-set-other gs i j (record { slot = slotAt gs i; missing = missingAt gs i; it = blank }) nobody n in
+          subst (λ (r : Row). SoundRow w marks r) (sym o) (s .at j h (ap (λ (r : Row). used (r .it)) (sym o) ∙ u))
+
+  module _ (np : ℕ) (room : w .k * w .p ≤ np) where
+    keeps-row : (d : Desk) (i : ℕ) → i < length (d .rows) → rowSpent (d .rows) i ≡ true → Keeps w marks np hs d → Keeps w marks np hs (freeRow i d)
+    keeps-row d i l e k =
+        let p-same : d .window .p ≡ w .p = ap (λ (v : Window). v .p) (k .same) in
+        let u : used (itAt (d .rows) i) ≡ true = first (used (itAt (d .rows) i)) (eqb (missingAt (d .rows) i) 0) e in
+        let ends = row-ends (slotAt (d .rows) i) (w .k) (w .p) (length (d .parity)) (k .sound .at i l u .slot-low) (omega (arith, room, k .long)) in
+        record {
+          same = rw (k .same);
+          present = k .present;
+          same-slots = slots-put (d .rows) i blank ∙ k .same-slots;
+          long = length-paste (d .parity) (slotAt (d .rows) i * d .window .p) (replicate (d .window .p) 0) (d .window .p) (rw p-same ends) (simp length-replicate (omega arith)) ∙ k .long;
+          sound = sound-put (d .rows) i l (k .sound);
+        }
+      where
+        first : (a b : Bool) → (a && b) ≡ true → a ≡ true
+        first true b e = refl
+        first false b e = e
+
+    pub keeps-spent : (d : Desk) (i : ℕ) → i < length (d .rows) → Keeps w marks np hs d → Keeps w marks np hs (freeSpent i d)
+    keeps-spent d i l k = go (rowSpent (d .rows) i) refl
+      where
+        go : (t : Bool) → rowSpent (d .rows) i ≡ t → Keeps w marks np hs (cond t (freeRow i d) d)
+        go true e = keeps-row d i l e k
+        go false e = k
+
+    keeps-below : (d : Desk) (m : ℕ) → m ≤ length hs → Keeps w marks np hs d → Keeps w marks np hs (below freeSpent m d)
+    keeps-below d zero l k = k
+    keeps-below d (suc m) l k =
+        let b = keeps-below d m (omega arith) k in
+        keeps-spent (below freeSpent m d) m (omega (arith, l, same-length hs (below freeSpent m d .rows) (b .same-slots))) b
+
+    pub keeps-all : (d : Desk) (m : ℕ) → m ≤ length hs → Keeps w marks np hs d → Keeps w marks np hs (freeBelow m d)
+    unfolding freeBelow
+    keeps-all d m l k = keeps-below d m l k
+
+    -- ---- of every table
+    module _ (media timestamps : List ℕ) (t : List Record) (f : Fits t (w .k) hs) (b : ℕ) where
+      -- a desk as a state
+      abbrev shown : Desk → State
+      shown d = scene (d .window) (stored media timestamps marks (d .parity) (scatter (d .rows) t)) b
+
+      spent-is : (d : Desk) → Keeps w marks np hs d → (i : ℕ) → i < length hs → spent (shown d) (slotAt hs i) ≡ rowSpent (d .rows) i
+      spent-is d k i l =
+          let n : i < length (d .rows) = omega (arith, l, same-length hs (d .rows) (k .same-slots)) in
+          let fits = same-fits f (d .rows) (k .same-slots) in
+          let e : getD (scatter (d .rows) t) (slotAt hs i) blank ≡ itAt (d .rows) i = ap (λ (q : ℕ). getD (scatter (d .rows) t) q blank) (sym (same-slot hs (d .rows) (k .same-slots) i)) ∙ get-scatter (fits .apart) (fits .enough) i n in
+          rw (e, k .same) (go n (used (itAt (d .rows) i)) refl)
+        where
+          go : i < length (d .rows) → (u : Bool) → used (itAt (d .rows) i) ≡ u → (u && eqb (length (missing marks (group w (itAt (d .rows) i .stream) (itAt (d .rows) i .snbase)))) 0) ≡ (u && eqb (missingAt (d .rows) i) 0)
+          go n true e = ap (λ (c : ℕ). eqb c 0) (sym (k .sound .at i n e .counted))
+          go n false e = refl
+
+      row-is : (d : Desk) → Keeps w marks np hs d → (i : ℕ) → i < length hs → releaseSpent (slotAt hs i) (shown d) ≡ shown (freeSpent i d)
+      row-is d k i l = ap (λ (u : Bool). cond u (release (slotAt hs i) (shown d)) (shown d)) (spent-is d k i l) ∙ go (rowSpent (d .rows) i)
+        where
+          n : i < length (d .rows)
+          n = omega (arith, l, same-length hs (d .rows) (k .same-slots))
+
+          freed : release (slotAt hs i) (shown d) ≡ shown (freeRow i d)
+          freed = rw (← same-slot hs (d .rows) (k .same-slots) i, set-scatter (same-fits f (d .rows) (k .same-slots) .apart) i blank n)
+
+          go : (u : Bool) → cond u (release (slotAt hs i) (shown d)) (shown d) ≡ shown (cond u (freeRow i d) d)
+          go true = freed
+          go false = refl
+
+      passed : (d : Desk) → Keeps w marks np hs d → (m : ℕ) → m ≤ length hs → rows releaseSpent hs m (shown d) ≡ shown (below freeSpent m d)
+      passed d k zero l = refl
+      passed d k (suc m) l = ap (releaseSpent (slotAt hs m)) (passed d k m (omega arith)) ∙ row-is (below freeSpent m d) (keeps-below d m (omega arith) k) m (omega arith)
+
+      free-set : (u : List Record) (r q : ℕ) → Free u q → Free (set u r blank) q
+      free-set [] r q e = e
+      free-set (v ∷ u) zero zero e = refl
+      free-set (v ∷ u) zero (suc q) e = e
+      free-set (v ∷ u) (suc r) zero e = e
+      free-set (v ∷ u) (suc r) (suc q) e = free-set u r q e
+
+      still : (r : ℕ) (x : State) → Free (x .store .records) r → releaseSpent r x ≡ x
+      still r x e = rw e
+
+      keeps-free : (r q : ℕ) (x : State) → Free (x .store .records) q → Free (releaseSpent r x .store .records) q
+      keeps-free r q x e = go (spent x r)
+        where
+          go : (u : Bool) → Free (cond u (release r x) x .store .records) q
+          go true = free-set (x .store .records) r q e
+          go false = e
+
+      below-is : (k : ℕ) (x : State) → releaseBelow k x ≡ below releaseSpent k x
+      below-is zero x = refl
+      below-is (suc k) x = ap (releaseSpent k) (below-is k x)
+
+      pub free-all : (parity : List ℕ) (v : Window) → v ≡ recount w (v .present) (v .«in_use») → Keeps w marks np hs (desk v parity hs) → shown (freeBelow (length hs) (desk v parity hs)) ≡ releaseAll (shown (desk v parity hs))
+      unfolding releaseAll freeBelow
+      free-all parity v e k =
+          let d = desk v parity hs in
+          let ek : v .k ≡ w .k = ap (λ (u : Window). u .k) e in
+          sym
+          (ap (λ (n : ℕ). releaseBelow n (shown d)) ek
+          ∙ below-is (w .k) (shown d)
+          ∙ fold (λ (x : State). x .store .records) releaseSpent still keeps-free (shown d) (apart-scatter (f .apart))
+          ∙ passed d k (length hs) (omega arith))

@@ -1,0 +1,7 @@
+pub mod Same
+pub mod Lowered
+pub mod Next
+pub mod Free
+pub mod Turns
+pub mod Rounds
+pub mod Going

@@ -1,0 +1,158 @@
+-- The two ways through a round: no row is ready; or one rebuilds, the counts fall, and what is spent is released. Assumes nothing.
+use mathlib.Core.Path.{_≡_, refl, sym, ap, subst, _∙_}
+use mathlib.Core.Bool.{Bool, true, false}
+use mathlib.Core.List.{List, [], _∷_}
+use mathlib.Core.Option.{Option, none, some}
+use Prim.Native.Nat.{ℕ, _+_, _*_, _^_, _<_, _≤_}
+use native.Mathlib.Nat.{add-zero}
+use native.Mathlib.Omega.{arith}
+use lib.ListN.{length, getD, take, drop, set, length-set}
+use lib.Seq.{paste}
+use borrow.Author.Tests.{eqb-true}
+use Rattle.sequence.specs.Lists.{keep, headOr}
+use Rattle.window.specs.declared.Record.{Record}
+use Rattle.window.specs.declared.Window.{Window}
+use Rattle.window.specs.Record.{blank}
+use Rattle.window.specs.Limits.{width}
+use Rattle.window.specs.Store.{stored, recordAt}
+use Rattle.window.specs.Group.{group, isMissing, missing}
+use Rattle.window.specs.Order.{used}
+use Rattle.window.specs.Plain.{Inside}
+use Rattle.calls.specs.Content.{timestampOver, payloadOver}
+use Rattle.calls.specs.State.{State, scene, recount, rebuild}
+use Rattle.calls.specs.Settle.{next, rebuildBy, releaseAll, round}
+use Rattle.table.specs.View.{Row, nobody, slotAt, missingAt, itAt, slots, scatter}
+use Rattle.table.specs.Apart.{Fits, Alike, get-scatter, alike-scatter, alike-fits, alike-length}
+use Rattle.table.specs.Sound.{SoundRow, Sound}
+use Rattle.group.specs.Held.{Below}
+use Rattle.group.proofs.Rows.{kept-below}
+use Rattle.engine.specs.declared.Round.{Round}
+use Rattle.engine.specs.Rows.{LoweredAll, nextRow, found, Desk, freeBelow}
+use Rattle.engine.specs.Round.{Parts, over, Serves, Rounded}
+use Rattle.engine.proofs.Same.{set-up-same, sound-same, recount-twice}
+use Rattle.engine.proofs.Lowered.{head-kept, lowered-sound}
+use Rattle.engine.proofs.Next.{atSlot, next-rows, found-ready, found-at, found-none}
+use Rattle.engine.proofs.Free.{desk, Keeps, keeps-all, free-all}
+
+pub round-none : (x : State) → next x ≡ none → x ≡ round x
+unfolding round
+round-none x e = rw e
+
+pub round-some : (x : State) (r : ℕ) → next x ≡ some r → releaseAll (rebuildBy r x) ≡ round x
+unfolding round
+round-some x r e = rw e
+
+-- the first of a list that is not empty is below its bound
+pub head-below : (n : ℕ) (l : List ℕ) → Below n l → length l ≡ 1 → headOr 0 l < n
+head-below n [] b e = absurd (omega (arith, e))
+head-below n (i ∷ l) b e = b .0
+
+-- ---- what was found: m rows, of which r is next
+module _ (w : Window) (based : w .base < 2 ^ width) (x : Parts) (serves : Serves w x) (m : ℕ) (long : length (x .rows) ≡ m) (r : ℕ) (is : nextRow (w .base) (x .rows) m ≡ found m r) where
+  next-at : (t : List Record) → Fits t (w .k) (x .rows) → (b : ℕ) → next (scene w (over x t) b) ≡ atSlot (x .rows) (found m r)
+  next-at t f b = next-rows w x (serves .sound) t f b ∙ ap (λ (n : ℕ). atSlot (x .rows) (nextRow (w .base) (x .rows) n)) long ∙ ap (atSlot (x .rows)) is
+
+  pub none-found : m ≤ r → Rounded w x (record { window = w; rebuilt = 0 }) x
+  none-found h =
+      let rests : (t : List Record) → Fits t (w .k) (x .rows) → (b : ℕ) → next (scene w (over x t) b) ≡ none = λ t f b. next-at t f b ∙ found-none (x .rows) m r h in
+      record {
+        kept = refl;
+        serves = serves;
+        same-slots = refl;
+        small = omega arith;
+        more-present = omega arith;
+        is = λ t f b. rw (add-zero b) (round-none (scene w (over x t) b) (rests t f b));
+        rest = λ _. rests;
+        still = λ _. refl;
+      }
+
+  -- the row that was found: its record and its slot
+  module _ (l : r < m) (v : Record) (ev : v ≡ itAt (x .rows) r) (s : ℕ) (es : s ≡ slotAt (x .rows) r) where
+    sound-row : SoundRow w (x .marks) (getD (x .rows) r nobody)
+    sound-row = serves .sound .at r (omega (arith, l, long)) (found-ready (w .base) (x .rows) m r is l .0)
+
+    pub row-inside : Inside w (v .stream) (v .snbase)
+    row-inside = rw ev (sound-row .inside)
+
+    pub row-low : s < w .k
+    row-low = rw es (sound-row .slot-low)
+
+    one-missing : length (missing (x .marks) (group w (v .stream) (v .snbase))) ≡ 1
+    one-missing = rw ev (sym (sound-row .counted) ∙ found-ready (w .base) (x .rows) m r is l .1)
+
+    -- its missing packet
+    pub missing-here : (i : ℕ) → i ≡ headOr 0 (missing (x .marks) (group w (v .stream) (v .snbase))) → (i < w .n) × (getD (x .marks) i 0 ≡ 0)
+    missing-here i e = (
+      rw e (head-below (w .n) (missing (x .marks) (group w (v .stream) (v .snbase))) (kept-below w based (serves .set-up) (v .stream) (v .snbase) row-inside (isMissing (x .marks))) one-missing),
+      eqb-true (getD (x .marks) i 0) 0 (rw e (head-kept (isMissing (x .marks)) (group w (v .stream) (v .snbase)) one-missing)),
+    )
+
+    module _ (i : ℕ) (ei : i ≡ headOr 0 (missing (x .marks) (group w (v .stream) (v .snbase)))) (media timestamps marks : List ℕ)
+        (em : media ≡ paste (x .media) (i * w .p) (payloadOver (w .p) (x .media) (x .marks) (group w (v .stream) (v .snbase)) (take (w .p) (drop (s * w .p) (x .parity)))) (w .p))
+        (et : timestamps ≡ set (x .timestamps) i (timestampOver (x .timestamps) (x .marks) (group w (v .stream) (v .snbase)) (v .«timestamp_recovery»)))
+        (ek : marks ≡ set (x .marks) i 1) (hs : List Row) (lowered : LoweredAll w i (x .rows) hs) (more : Window) (ew : more ≡ recount w (w .present + 1) (w .«in_use»)) where
+      -- what the rebuild leaves, of every table
+      rebuilt : (t : List Record) → Fits t (w .k) (x .rows) → (b : ℕ) → scene more (stored media timestamps marks (x .parity) (scatter hs t)) (b + 1) ≡ rebuildBy s (scene w (over x t) b)
+      unfolding rebuild
+      rebuilt t f b =
+          let here : getD (scatter (x .rows) t) s blank ≡ v = ap (λ (q : ℕ). getD (scatter (x .rows) t) q blank) es ∙ get-scatter (f .apart) (f .enough) r (omega (arith, l, long)) ∙ sym ev in
+          rw (em, et, ek, ew, alike-scatter (lowered .alike) t, here, ei)
+
+      sound-now : Sound more marks hs
+      sound-now =
+          let h = missing-here i ei in
+          sound-same w more (w .present + 1) (w .«in_use») marks hs ew (rw ek (lowered-sound w i (x .marks) (x .rows) hs (omega (arith, h .0, serves .marks-long)) (h .1) (serves .sound) lowered))
+
+      -- what is asked of the rows before the release
+      pub low-now : (j : ℕ) → j < m → used (itAt hs j) ≡ true → slotAt hs j < more .k
+      low-now j h u = sound-now .at j (omega (arith, h, long, alike-length (lowered .alike))) u .slot-low
+
+      pub room-now : more .k * more .p ≤ length (x .parity)
+      room-now = rw ew (serves .parity-long)
+
+      keeps-start : Keeps more marks (length (x .parity)) hs (desk more (x .parity) hs)
+      keeps-start = record { same = refl; present = refl; same-slots = refl; long = refl; sound = sound-now }
+
+      module _ (window : Window) (parity : List ℕ) (hs′ : List Row) (e : desk window parity hs′ ≡ freeBelow m (desk more (x .parity) hs)) (lm : length media ≡ length (x .media)) (lt : length timestamps ≡ length (x .timestamps)) where
+        abbrev y : Parts
+        y = record { media = media; timestamps = timestamps; marks = marks; parity = parity; rows = hs′ }
+
+        length-now : length hs ≡ m
+        length-now = alike-length (lowered .alike) ∙ long
+
+        keeps : Keeps more marks (length (x .parity)) hs (desk window parity hs′)
+        keeps = subst (λ (d : Desk). Keeps more marks (length (x .parity)) hs d) (sym e) (keeps-all more marks hs (length (x .parity)) room-now (desk more (x .parity) hs) m (omega (arith, length-now)) keeps-start)
+
+        more-kept : more ≡ recount w (more .present) (more .«in_use»)
+        more-kept = rw ew
+
+        kept-window : window ≡ recount w (window .present) (window .«in_use»)
+        kept-window = recount-twice w more window more-kept (keeps .same)
+
+        all : (t : List Record) → Fits t (w .k) (x .rows) → (b : ℕ) → scene window (over y t) (b + 1) ≡ round (scene w (over x t) b)
+        all t f b =
+            let fits : Fits t (more .k) hs = rw ew (alike-fits (lowered .alike) f) in
+            ap (λ (d : Desk). scene (d .window) (stored media timestamps marks (d .parity) (scatter (d .rows) t)) (b + 1)) (e ∙ ap (λ (n : ℕ). freeBelow n (desk more (x .parity) hs)) (sym length-now))
+            ∙ free-all more marks hs (length (x .parity)) room-now media timestamps t fits (b + 1) (x .parity) more refl keeps-start
+            ∙ ap releaseAll (rebuilt t f b)
+            ∙ round-some (scene w (over x t) b) s (next-at t f b ∙ found-at (x .rows) m r l ∙ ap some (sym es))
+
+        pub one-found : Rounded w x (record { window = window; rebuilt = 1 }) y
+        one-found = record {
+          kept = kept-window;
+          serves =
+              record {
+                set-up = set-up-same w window (window .present) (window .«in_use») kept-window (serves .set-up);
+                media-long = rw (kept-window, lm) (serves .media-long);
+                timestamps-long = rw (kept-window, lt) (serves .timestamps-long);
+                marks-long = rw (kept-window, ek, length-set) (serves .marks-long);
+                parity-long = rw (kept-window, keeps .long) (serves .parity-long);
+                sound = sound-same more window (window .present) (window .«in_use») marks hs′ (keeps .same) (keeps .sound);
+              };
+          same-slots = keeps .same-slots ∙ lowered .alike .same-slots;
+          small = omega arith;
+          more-present = let a = keeps .present in let b : more .present ≡ w .present + 1 = ap (λ (u : Window). u .present) ew in omega arith;
+          is = all;
+          rest = λ z. absurd (omega (arith, z));
+          still = λ z. absurd (omega (arith, z));
+        }

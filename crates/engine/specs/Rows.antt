@@ -1,0 +1,98 @@
+-- What the engine does to the rows of a hand.
+use mathlib.Core.Path.{_≡_}
+use mathlib.Core.Bool.{Bool, true, cond, not, _&&_, _||_}
+use mathlib.Core.List.{List}
+use mathlib.Core.Option.{Option, none, some}
+use Prim.Native.Nat.{ℕ, _+_, _*_, _-_, _<_}
+use lib.Dec.{eqb, ltb}
+use lib.ListN.{length, getD, replicate}
+use lib.Seq.{paste}
+use Rattle.sequence.specs.Lists.{count}
+use Rattle.sequence.specs.Wrap.{ahead}
+use Rattle.window.specs.declared.Record.{Record}
+use Rattle.window.specs.declared.Window.{Window}
+use Rattle.window.specs.Record.{blank}
+use Rattle.window.specs.Limits.{width}
+use Rattle.window.specs.Group.{group}
+use Rattle.window.specs.Order.{used}
+use Rattle.window.specs.Plain.{Inside}
+use Rattle.calls.specs.State.{recount}
+use Rattle.table.specs.View.{Row, nobody, slotAt, missingAt, itAt, put}
+use Rattle.table.specs.Apart.{Alike}
+use Rattle.table.specs.Fold.{below}
+use Rattle.engine.specs.declared.Best.{Best}
+
+-- ---- one packet more
+
+-- a row after position i is no longer missing: it waits for one less where its group has the position
+pub record Lowered (w : Window) (i : ℕ) (h h′ : Row) : Type 0 where
+  pub same-slot : h′ .slot ≡ h .slot
+  pub same-it : h′ .it ≡ h .it
+  pub less : used (h .it) ≡ true → Inside w (h .it .stream) (h .it .snbase) → h′ .missing ≡ h .missing - count (eqb i) (group w (h .it .stream) (h .it .snbase))
+
+-- row j is lowered, and the others stay
+pub record LoweredAt (w : Window) (i j : ℕ) (hs hs′ : List Row) : Type 0 where
+  pub alike : Alike hs′ hs
+  pub row : Lowered w i (getD hs j nobody) (getD hs′ j nobody)
+  pub others : (q : ℕ) → (q ≡ j → ⊥) → getD hs′ q nobody ≡ getD hs q nobody
+
+-- every row is lowered
+pub record LoweredAll (w : Window) (i : ℕ) (hs hs′ : List Row) : Type 0 where
+  pub alike : Alike hs′ hs
+  pub rows : (j : ℕ) → j < length hs → Lowered w i (getD hs j nobody) (getD hs′ j nobody)
+
+-- ---- which row is next
+
+-- a row in use with one packet missing
+abbrev pub rowReady : List Row → ℕ → Bool
+rowReady hs i = used (itAt hs i) && eqb (missingAt hs i) 1
+
+-- the order of rebuilding: by the position of SNBase, a column before a row
+abbrev pub rowRank : (base : ℕ) → List Row → ℕ → ℕ
+rowRank base hs i = ahead width base (itAt hs i .snbase) * 2 + itAt hs i .stream
+
+-- row i where it is ready and ranks below the best so far, else that
+abbrev pub betterRow : (base : ℕ) → List Row → ℕ → Option ℕ → Option ℕ
+betterRow base hs i none = cond (rowReady hs i) (some i) none
+betterRow base hs i (some q) = cond (rowReady hs i && ltb (rowRank base hs i) (rowRank base hs q)) (some i) (some q)
+
+-- the ready row of lowest rank among the first n
+abbrev pub nextRow : (base : ℕ) → List Row → ℕ → Option ℕ
+nextRow base hs n = below (betterRow base hs) n none
+
+-- an index below m is a find, any other is none
+abbrev pub found : (m at : ℕ) → Option ℕ
+found m at = cond (ltb at m) (some at) none
+
+-- row i where it is ready and ranks below the best so far, if there is one
+abbrev pub pick : Best → (m i rank : ℕ) → Bool → Best
+pick b m i rank ready = cond (ready && (not (ltb (b .at) m) || ltb rank (b .rank))) (record { at = i; rank = rank }) b
+
+-- ---- releasing what is spent
+
+-- what a release works on: the window value, the payloads of parity, and the rows
+pub record Desk : Type 0 where
+  pub window : Window
+  pub parity : List ℕ
+  pub rows : List Row
+
+-- a row in use with none missing
+abbrev pub rowSpent : List Row → ℕ → Bool
+rowSpent hs i = used (itAt hs i) && eqb (missingAt hs i) 0
+
+-- the record of row i and its payload are set to zero
+abbrev pub freeRow : ℕ → Desk → Desk
+freeRow i d =
+    record {
+      window = recount (d .window) (d .window .present) (d .window .«in_use» - 1);
+      parity = paste (d .parity) (slotAt (d .rows) i * d .window .p) (replicate (d .window .p) 0) (d .window .p);
+      rows = put (d .rows) i blank;
+    }
+
+-- row i is set free if it is spent
+abbrev pub freeSpent : ℕ → Desk → Desk
+freeSpent i d = cond (rowSpent (d .rows) i) (freeRow i d) d
+
+-- each of the first m rows is set free if it is spent
+unfoldable pub freeBelow : ℕ → Desk → Desk
+freeBelow m d = below freeSpent m d

@@ -1,0 +1,3 @@
+pub mod Along
+pub mod Rows
+pub mod First

@@ -1,3 +1,0 @@
-pub mod Shape
-pub mod Demand3
-pub mod Theorem

@@ -1,0 +1,5 @@
+pub mod Tests
+pub mod Scans
+pub mod Place
+pub mod After
+pub mod Ways

@@ -1,0 +1,56 @@
+-- A datagram laid down in a lent output, payload first and then the headers in front of it. Assumes nothing.
+use mathlib.Core.Path.{_≡_, refl, sym, ap, ap₂, _∙_}
+use mathlib.Core.Bool.{Bool, true, false, not}
+use mathlib.Core.List.{List, [], _∷_, _++_, append-assoc}
+use Prim.Native.Nat.{ℕ, zero, suc, _+_, _≤_}
+use native.Mathlib.Nat.{zero-add}
+use native.Mathlib.Omega.{arith}
+use lib.Dec.{ltb}
+use lib.ListN.{length, take, drop, replicate, length-append}
+use lib.Seq.{paste, sets, sets-eq, length-paste, length-take-le, take-length, drop-at}
+use borrow.Author.Tests.{lt-ltb, le-ltb}
+use Rattle.sequence.specs.Lists.{any, keep, count, or-split, any-count}
+use Rattle.xor.specs.Xor.{zipXor}
+use Rattle.xor.specs.Laws.{zip-zero}
+use Rattle.calls.specs.Call.{over}
+
+-- p elements of y pasted behind n places, and the n elements of h put there
+pub laid : (h y out : List ℕ) (n p : ℕ) → length h ≡ n → n + p ≤ length out → p ≤ length y → sets (paste out n y p) 0 h ≡ over (h ++ take p y) out
+laid h y out n p eh ho hy =
+    let l = length-paste out n y p ho hy in
+    let head : length (take n out) ≡ n = length-take-le n out (omega arith) in
+    let front : drop n (paste out n y p) ≡ take p y ++ drop (n + p) out = rw append-assoc (drop-at (take n out) (take p y ++ drop (n + p) out) n head) in
+    let size : length (h ++ take p y) ≡ n + p = length-append h (take p y) ∙ ap₂ _+_ eh (length-take-le p y hy) in
+    sets-eq h (paste out n y p) 0 (omega arith)
+    ∙ ap (λ (k : ℕ). h ++ drop k (paste out n y p)) (zero-add (length h) ∙ eh)
+    ∙ ap (λ (t : List ℕ). h ++ t) front
+    ∙ sym (append-assoc h (take p y) (drop (n + p) out))
+    ∙ ap (λ (k : ℕ). h ++ take p y ++ drop k out) (sym size)
+
+-- the same where y is x xored into p zeros
+pub laid-sum : (h x out : List ℕ) (n p : ℕ) → length h ≡ n → n + p ≤ length out → length x ≡ p → sets (paste out n (zipXor (replicate p 0) x) p) 0 h ≡ over (h ++ x) out
+laid-sum h x out n p eh ho ex =
+    let zeros : zipXor (replicate p 0) x ≡ x = ap (λ (k : ℕ). zipXor (replicate k 0) x) (sym ex) ∙ zip-zero x in
+    ap (λ (l : List ℕ). sets (paste out n l p) 0 h) zeros
+    ∙ laid h x out n p eh ho (omega arith)
+    ∙ ap (λ (l : List ℕ). over (h ++ l) out) (ap (λ (k : ℕ). take k x) (sym ex) ∙ take-length x)
+
+-- where a test holds of no element, the elements of which it does not hold are all
+pub keep-all : (test : ℕ → Bool) (l : List ℕ) → any test l ≡ false → keep (λ i. not (test i)) l ≡ l
+keep-all test [] e = refl
+keep-all test (i ∷ l) e =
+    let s = or-split (test i) (any test l) e in
+    rw (s .0) (ap (λ (k : List ℕ). i ∷ k) (keep-all test l (s .1)))
+
+-- a number that is not 0 is above 0
+positive : (m : ℕ) → (m ≡ 0 → ⊥) → ltb 0 m ≡ true
+positive zero h = absurd (h refl)
+positive (suc m) h = lt-ltb 0 (suc m) (omega arith)
+
+-- a test holds of some element where it holds of not 0 of them
+pub any-some : (test : ℕ → Bool) (l : List ℕ) (n : ℕ) → n ≡ count test l → (n ≡ 0 → ⊥) → any test l ≡ true
+any-some test l n e h = any-count test l ∙ positive (count test l) (λ q. h (e ∙ q))
+
+-- and of none where it holds of 0 of them
+pub any-none : (test : ℕ → Bool) (l : List ℕ) (n : ℕ) → n ≡ count test l → n ≡ 0 → any test l ≡ false
+any-none test l n e z = any-count test l ∙ le-ltb 0 (count test l) (omega arith)

@@ -1,0 +1,169 @@
+-- The ways through `readOut` and `wroteParity`, each from what the code finds there. Assumes nothing.
+use mathlib.Core.Path.{_≡_, refl, sym, ap, _∙_}
+use mathlib.Core.Bool.{Bool, true, false, cond, not}
+use mathlib.Core.List.{List, [], _∷_, _++_, map}
+use Prim.Native.Nat.{ℕ, _+_, _*_, _%_, _<_, _≤_}
+use native.Mathlib.Omega.{arith}
+use lib.Dec.{eqb, ltb}
+use lib.ListN.{length, getD, take, drop, replicate, length-drop}
+use lib.Seq.{paste, sets}
+use lib.Bits.{xor-zero-l}
+use borrow.Author.Tests.{lt-ltb, le-ltb, eq-eqb, ne-eqb, not-false}
+use Rattle.answer.specs.declared.Answer.the-variants.{Done, Refused}
+use Rattle.answer.specs.First.{first, first-hit, first-past, first-end, first-none}
+use Rattle.xor.specs.Xor.{zipXor, xorAll, xorPayloads}
+use Rattle.rtp.specs.Rtp.{rtpHeaderSize, mediaType, parityType, rtpHeader}
+use Rattle.rtp.specs.Fec.{parityHeaderSize, fecHeader, fecBytes, offsetOf, naOf, byNa}
+use Rattle.parity.specs.Sum.{rowAt, length-payloads, Ends}
+use Rattle.window.specs.declared.Record.{Record}
+use Rattle.window.specs.declared.Sizes.{Sizes}
+use Rattle.window.specs.declared.Window.{Window}
+use Rattle.window.specs.Store.{Store, stored}
+use Rattle.window.specs.Group.{position, group, inside, isMissing, present}
+use Rattle.calls.specs.Content.{timestampOver, payloadOver}
+use Rattle.calls.specs.Datagram.{Outer}
+use Rattle.calls.specs.Call.{Written, standingTests, over, readTests, readOut, writeTests, wroteParity}
+use Rattle.calls.specs.Standing.{standing-known, standing-stops, standing-goes}
+use Rattle.group.proofs.Rows.{row-ends}
+use Rattle.table.specs.View.{Row, scatter}
+use Rattle.table.specs.Apart.{length-scatter}
+use Rattle.order.specs.Stands.{Taken, Stood}
+use Rattle.read.specs.Tests.{sizes, groupTests}
+use Rattle.read.proofs.Lay.{laid, laid-sum, keep-all}
+
+-- a call that is refused leaves the output
+abbrev pub no : ℕ → Window → List ℕ → Written
+no r w out = record { answer = Refused r; window = w; out = out }
+
+-- and one that is done has written to it
+abbrev pub yes : ℕ → Window → List ℕ → Written
+yes k w out = record { answer = Done k; window = w; out = out }
+
+-- ---- refusals 1 to 5
+
+-- whether the output is too short, as the code finds it
+pub short-is : {w : Window} {z : Sizes} {marks : List ℕ} {hs hs′ : List Row} {r : ℕ} (a b : Bool) → a ≡ b → Stood w z a marks hs hs′ r → Stood w z b marks hs hs′ r
+short-is a b e s = rw e at s
+
+-- what the code finds is what they say of every table
+pub said : (w : Window) (media timestamps marks parity : List ℕ) (len : ℕ) (hs hs′ : List Row) (room need r : ℕ) → Stood w (sizes media timestamps marks parity len) (ltb room need) marks hs hs′ r
+    → (t : List Record) → length t ≡ len → Taken t (w .k) hs → r ≡ first (standingTests w (stored media timestamps marks parity (scatter hs t)) room need)
+said w media timestamps marks parity len hs hs′ room need r s t e k = s .is media timestamps parity t (rw (length-scatter hs t, e)) k
+
+-- ---- reading out
+module _ (w : Window) (number : ℕ) (s : Store) (out : List ℕ) where
+  -- a test applies
+  read-no : (r : ℕ) → r ≡ first (readTests w number s out) → (r ≡ 0 → ⊥) → no r w out ≡ readOut w number s out
+  unfolding readOut
+  read-no r e h = rw (← e, ne-eqb r 0 h)
+
+  -- one of refusals 1 to 5
+  pub read-stops : (r : ℕ) → r ≡ first (standingTests w s (length out) (rtpHeaderSize + w .p)) → (r ≡ 0 → ⊥) → no r w out ≡ readOut w number s out
+  read-stops r e h = read-no r (standing-stops w s (length out) (rtpHeaderSize + w .p) r ((13, not (ltb (position w number) (w .n))) ∷ (17, isMissing (s .marks) (position w number)) ∷ []) e h) h
+
+  module _ (r : ℕ) (z : r ≡ 0) (i : ℕ) (ei : i ≡ position w number) (e : r ≡ first (standingTests w s (length out) (rtpHeaderSize + w .p))) where
+    -- the call's own tests decide
+    read-goes : (k : ℕ) → k ≡ first ((13, not (ltb i (w .n))) ∷ (17, isMissing (s .marks) i) ∷ []) → k ≡ first (readTests w number s out)
+    read-goes k h = standing-goes w s (length out) (rtpHeaderSize + w .p) r k ((13, not (ltb (position w number) (w .n))) ∷ (17, isMissing (s .marks) (position w number)) ∷ []) e z (rw ei at h)
+
+    -- refusal 13
+    pub read-outside : w .n ≤ i → no 13 w out ≡ readOut w number s out
+    read-outside h = read-no 13 (read-goes 13 (first-hit 13 (not (ltb i (w .n))) _ (ap not (le-ltb i (w .n) h)))) (λ q. omega arith)
+
+    module _ (below : i < w .n) where
+      -- the last test decides
+      inner : (k : ℕ) → k ≡ first ((17, isMissing (s .marks) i) ∷ []) → k ≡ first (readTests w number s out)
+      inner k h = read-goes k (first-past k 13 (not (ltb i (w .n))) _ (ap not (lt-ltb i (w .n) below)) h)
+
+      -- refusal 17
+      pub read-missing : getD (s .marks) i 0 ≡ 0 → no 17 w out ≡ readOut w number s out
+      read-missing h = read-no 17 (inner 17 (first-hit 17 (isMissing (s .marks) i) [] (eq-eqb (getD (s .marks) i 0) 0 h))) (λ q. omega arith)
+
+      -- no test applies
+      read-yes : 0 ≡ first (readTests w number s out)
+          → yes (rtpHeaderSize + w .p) w (over (rtpHeader mediaType number (getD (s .timestamps) (position w number) 0) (w .ssrc) ++ take (w .p) (drop (position w number * w .p) (s .media))) out) ≡ readOut w number s out
+      unfolding readOut
+      read-yes q = rw (← q)
+
+      -- the payload copied behind the header, then the header written
+      pub read-done : (getD (s .marks) i 0 ≡ 0 → ⊥) → (one two : List ℕ) → one ≡ paste out rtpHeaderSize (drop (i * w .p) (s .media)) (w .p)
+          → two ≡ sets one 0 (rtpHeader mediaType number (getD (s .timestamps) i 0) (w .ssrc)) → yes (rtpHeaderSize + w .p) w two ≡ readOut w number s out
+      read-done h one two e1 e2 =
+          let g = standing-known w s (length out) (rtpHeaderSize + w .p) r e z in
+          let ends = row-ends i (w .n) (w .p) (length (s .media)) below (g .sized .media-long) in
+          let long : w .p ≤ length (drop (i * w .p) (s .media)) = simp length-drop (omega arith) in
+          ap (λ (t : List ℕ). yes (rtpHeaderSize + w .p) w t)
+          (e2
+          ∙ ap (λ (t : List ℕ). sets t 0 (rtpHeader mediaType number (getD (s .timestamps) i 0) (w .ssrc))) e1
+          ∙ laid (rtpHeader mediaType number (getD (s .timestamps) i 0) (w .ssrc)) (drop (i * w .p) (s .media)) out rtpHeaderSize (w .p) refl (g .fits) long
+          ∙ ap (λ (j : ℕ). over (rtpHeader mediaType number (getD (s .timestamps) j 0) (w .ssrc) ++ take (w .p) (drop (j * w .p) (s .media))) out) ei)
+          ∙ read-yes (inner 0 (first-past 0 17 (isMissing (s .marks) i) [] (ne-eqb (getD (s .marks) i 0) 0 h) first-end))
+
+-- ---- writing parity
+
+-- where no test of a group applies: it lies in the window
+pub lies-inside : (w : Window) (stream snbase : ℕ) (marks : List ℕ) (k : ℕ) → k ≡ first (groupTests w stream snbase marks) → k ≡ 0 → inside w stream snbase ≡ true
+lies-inside w stream snbase marks k f y = not-false (inside w stream snbase) (first-none (groupTests w stream snbase marks) (tt, (tt, (tt, tt))) (sym f ∙ y) .1 .0)
+
+-- and all of it is there
+whole : (w : Window) (stream snbase : ℕ) (marks : List ℕ) (k : ℕ) → k ≡ first (groupTests w stream snbase marks) → k ≡ 0 → present marks (group w stream snbase) ≡ group w stream snbase
+whole w stream snbase marks k f y = keep-all (isMissing marks) (group w stream snbase) (first-none (groupTests w stream snbase marks) (tt, (tt, (tt, tt))) (sym f ∙ y) .1 .1 .0)
+
+module _ (stream : ℕ) (w : Window) (snbase : ℕ) (o : Outer) (s : Store) (out : List ℕ) where
+  -- a test applies
+  write-no : (r : ℕ) → r ≡ first (writeTests w stream snbase s out) → (r ≡ 0 → ⊥) → no r w out ≡ wroteParity stream w snbase o s out
+  unfolding wroteParity
+  write-no r e h = rw (← e, ne-eqb r 0 h)
+
+  -- one of refusals 1 to 5
+  pub write-stops : (r : ℕ) → r ≡ first (standingTests w s (length out) (parityHeaderSize + w .p)) → (r ≡ 0 → ⊥) → no r w out ≡ wroteParity stream w snbase o s out
+  write-stops r e h = write-no r (standing-stops w s (length out) (parityHeaderSize + w .p) r (groupTests w stream snbase (s .marks)) e h) h
+
+  module _ (r : ℕ) (z : r ≡ 0) (k : ℕ) (f : k ≡ first (groupTests w stream snbase (s .marks))) (e : r ≡ first (standingTests w s (length out) (parityHeaderSize + w .p))) where
+    -- the call's own tests decide
+    write-goes : k ≡ first (writeTests w stream snbase s out)
+    write-goes = standing-goes w s (length out) (parityHeaderSize + w .p) r k (groupTests w stream snbase (s .marks)) e z f
+
+    -- one of refusals 12, 13 and 17
+    pub group-stops : (k ≡ 0 → ⊥) → no k w out ≡ wroteParity stream w snbase o s out
+    group-stops h = write-no k write-goes h
+
+    module _ (y : k ≡ 0) where
+      -- no test applies
+      write-yes : (datagram : List ℕ) → datagram ≡ rtpHeader parityType (o .sequence) (o .timestamp) (o .ssrc) ++ fecHeader stream (w .l) (w .d) (w .p) snbase (xorAll (map (λ i. getD (s .timestamps) i 0) (group w stream snbase))) ++ xorPayloads (w .p) (map (rowAt (w .p) (s .media)) (group w stream snbase))
+          → yes (parityHeaderSize + w .p) w (over datagram out) ≡ wroteParity stream w snbase o s out
+      unfolding wroteParity
+      write-yes datagram q = rw (← write-goes, y, q)
+
+      -- the payloads xored into zeros and laid behind the headers, then the headers written
+      pub write-done : Ends (w .p) (s .media) (group w stream snbase) → (recovery : ℕ) (one two : List ℕ)
+          → recovery ≡ timestampOver (s .timestamps) (s .marks) (group w stream snbase) 0
+          → one ≡ paste out parityHeaderSize (payloadOver (w .p) (s .media) (s .marks) (group w stream snbase) (replicate (w .p) 0)) (w .p)
+          → two ≡ sets one 0 (rtpHeader parityType (o .sequence) (o .timestamp) (o .ssrc) ++ fecHeader stream (w .l) (w .d) (w .p) snbase recovery)
+          → yes (parityHeaderSize + w .p) w two ≡ wroteParity stream w snbase o s out
+      write-done ends recovery one two es e1 e2 =
+          let g = standing-known w s (length out) (parityHeaderSize + w .p) r e z in
+          let all = whole w stream snbase (s .marks) k f y in
+          let x : List ℕ → List ℕ = λ l. xorPayloads (w .p) (map (rowAt (w .p) (s .media)) l) in
+          let head : ℕ → List ℕ = λ t. rtpHeader parityType (o .sequence) (o .timestamp) (o .ssrc) ++ fecHeader stream (w .l) (w .d) (w .p) snbase t in
+          let et : recovery ≡ xorAll (map (λ i. getD (s .timestamps) i 0) (group w stream snbase)) =
+          es ∙ xor-zero-l (xorAll (map (λ i. getD (s .timestamps) i 0) (present (s .marks) (group w stream snbase)))) ∙ ap (λ (l : List ℕ). xorAll (map (λ i. getD (s .timestamps) i 0) l)) all in
+          let ex : length (x (group w stream snbase)) ≡ w .p = length-payloads (w .p) (s .media) (group w stream snbase) ends in
+          ap (λ (t : List ℕ). yes (parityHeaderSize + w .p) w t)
+          (e2
+          ∙ ap (λ (t : List ℕ). sets t 0 (head recovery)) (e1 ∙ ap (λ (l : List ℕ). paste out parityHeaderSize (zipXor (replicate (w .p) 0) (x l)) (w .p)) all)
+          ∙ laid-sum (head recovery) (x (group w stream snbase)) out parityHeaderSize (w .p) refl (g .fits) ex)
+          ∙ write-yes (head recovery ++ x (group w stream snbase)) (ap (λ (t : ℕ). head t ++ x (group w stream snbase)) et)
+
+-- ---- both headers, the one written behind the other
+pub headers-laid : (stream l d p snbase recovery sequence timestamp ssrc na offset size kind : ℕ) (out one two : List ℕ) → na ≡ naOf stream l d → offset ≡ offsetOf stream l → size ≡ byNa na p → kind ≡ byNa na mediaType
+    → one ≡ sets out 0 (rtpHeader parityType sequence timestamp ssrc) → two ≡ sets one rtpHeaderSize (fecBytes snbase size kind recovery stream offset na)
+    → two ≡ sets out 0 (rtpHeader parityType sequence timestamp ssrc ++ fecHeader stream l d p snbase recovery)
+headers-laid stream l d p snbase recovery sequence timestamp ssrc na offset size kind out one two en eo es ek e1 e2 = e2 ∙ rw (e1, es, ek, eo, en)
+
+-- what a value leaves over a group is no more than the value
+pub byNa-le : (na v : ℕ) → byNa na v ≤ v
+byNa-le na v = go (eqb (na % 2) 0) where
+  go : (b : Bool) → cond b 0 v ≤ v
+  go true = omega arith
+  go false = omega arith

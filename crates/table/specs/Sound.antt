@@ -1,0 +1,23 @@
+-- What is known of a hand behind refusal 5: each row in use can be worked on.
+use mathlib.Core.Path.{_≡_, sym, ap, _∙_}
+use mathlib.Core.Bool.{Bool, true}
+use mathlib.Core.List.{List}
+use Prim.Native.Nat.{ℕ, _<_}
+use native.Mathlib.Omega.{arith}
+use lib.ListN.{length, getD}
+use Rattle.window.specs.declared.Record.{Record}
+use Rattle.window.specs.declared.Window.{Window}
+use Rattle.window.specs.Group.{group, missing}
+use Rattle.window.specs.Order.{used}
+use Rattle.window.specs.Plain.{Inside}
+use Rattle.table.specs.View.{Row, nobody, itAt}
+
+-- the slot of a row is one of the window's records, its group lies in the window, and its missing count is right
+pub record SoundRow (w : Window) (marks : List ℕ) (h : Row) : Type 0 where
+  pub slot-low : h .slot < w .k
+  pub inside : Inside w (h .it .stream) (h .it .snbase)
+  pub counted : h .missing ≡ length (missing marks (group w (h .it .stream) (h .it .snbase)))
+
+-- this is so of each row in use
+pub record Sound (w : Window) (marks : List ℕ) (hs : List Row) : Type 0 where
+  pub at : (i : ℕ) → i < length hs → used (itAt hs i) ≡ true → SoundRow w marks (getD hs i nobody)

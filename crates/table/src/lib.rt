@@ -1,0 +1,277 @@
+// The records in use, each with its slot and how many of its group are missing: one slice of words, six to a row, seen through one view, `hand`.
+use window::Record;
+ghost use mathlib.Core.Path.{_≡_};
+ghost use mathlib.Core.Bool.{true, false};
+ghost use mathlib.Core.List.{List};
+ghost use Prim.Native.Nat.{_+_, _-_, _<_, _≤_};
+ghost use lib.ListN.{length, set, take};
+ghost use Rattle.window.specs.declared.Record.{Record};
+ghost use Rattle.table.specs.View.{Row, hand, wordsAt, putWords, fit, slotAt, missingAt, itAt, put, putMissing, scatter};
+ghost use Rattle.table.specs.Apart.{Within};
+ghost use Rattle.table.specs.Hold.{FirstFree, Shifted, holdIn};
+ghost use Rattle.table.specs.Gather.{more, gathered, Gathered, wiped};
+
+// How many words a row has: its slot, its missing count, and the four of its record.
+pub const ROW: usize = 6;
+
+// A word as a size.
+fn wide32(x: u32) -> usize
+    ensures { λ r. ⌜ r ≡ x ⌝ }
+{
+    x as usize
+}
+
+// A small size as a word.
+fn narrow32(x: usize) -> u32
+    requires { ⌜ x < 65536 ⌝ }
+    ensures { λ r. ⌜ r ≡ x ⌝ }
+{
+    x as u32
+}
+
+// A field of 8 bits as a word.
+fn wide8(x: u8) -> u32
+    ensures { λ r. ⌜ (r ≡ x) × (x < 256) ⌝ }
+{
+    x as u32
+}
+
+// A field of 16 bits as a word.
+fn wide16(x: u16) -> u32
+    ensures { λ r. ⌜ (r ≡ x) × (x < 65536) ⌝ }
+{
+    x as u32
+}
+
+// The record of the four words from i on. A word that is too large for its field counts modulo the field's width, so nothing is asked of the words.
+fn words_at(rows: &[u32], i: usize) -> Record
+    requires { ⌜ i + 4 ≤ length (now rows) ⌝ }
+    ensures { λ v. ⌜ v ≡ wordsAt (now (rows .entry)) i ⌝ }
+{
+    Record {
+        stream: (rows[i] % 256) as u8,
+        in_use: (rows[i + 1] % 256) as u8,
+        snbase: (rows[i + 2] % 65536) as u16,
+        timestamp_recovery: rows[i + 3],
+    }
+}
+
+// The four words from i on are set to those of a record.
+fn put_words(rows: &mut [u32], i: usize, v: Record)
+    requires { ⌜ i + 4 ≤ length (now rows) ⌝ }
+    ensures { λ _. ⌜ (now (rows .exit) ≡ putWords (now (rows .entry)) i v) × (fit v ≡ v) ⌝ }
+{
+    let stream = wide8(v.stream);
+    let in_use = wide8(v.in_use);
+    let snbase = wide16(v.snbase);
+    rows[i] = stream;
+    rows[i + 1] = in_use;
+    rows[i + 2] = snbase;
+    rows[i + 3] = v.timestamp_recovery;
+}
+
+// The slot of row i as a word.
+fn slot_word(rows: &[u32], i: usize) -> u32
+    requires { ⌜ i < length (hand (now rows)) ⌝ }
+    ensures { λ s. ⌜ s ≡ slotAt (hand (now (rows .entry))) i ⌝ }
+{
+    rows[i * ROW]
+}
+
+// The missing count of row i as a word.
+fn missing_word(rows: &[u32], i: usize) -> u32
+    requires { ⌜ i < length (hand (now rows)) ⌝ }
+    ensures { λ n. ⌜ n ≡ missingAt (hand (now (rows .entry))) i ⌝ }
+{
+    rows[i * ROW + 1]
+}
+
+// The slot of row i.
+pub fn slot_at(rows: &[u32], i: usize) -> usize
+    requires { ⌜ i < length (hand (now rows)) ⌝ }
+    ensures { λ s. ⌜ s ≡ slotAt (hand (now (rows .entry))) i ⌝ }
+{
+    wide32(slot_word(rows, i))
+}
+
+// How many of the group of row i are missing.
+pub fn missing_at(rows: &[u32], i: usize) -> usize
+    requires { ⌜ i < length (hand (now rows)) ⌝ }
+    ensures { λ n. ⌜ n ≡ missingAt (hand (now (rows .entry))) i ⌝ }
+{
+    wide32(missing_word(rows, i))
+}
+
+// The record of row i.
+pub fn record_at(rows: &[u32], i: usize) -> Record
+    requires { ⌜ i < length (hand (now rows)) ⌝ }
+    ensures { λ v. ⌜ v ≡ itAt (hand (now (rows .entry))) i ⌝ }
+{
+    words_at(rows, i * ROW + 2)
+}
+
+// The missing count of row i is set.
+pub fn put_missing(rows: &mut [u32], i: usize, missing: usize)
+    requires { ⌜ (i < length (hand (now rows))) × (missing < 65536) ⌝ }
+    ensures { λ _. ⌜ hand (now (rows .exit)) ≡ putMissing (hand (now (rows .entry))) i missing ⌝ }
+{
+    rows[i * ROW + 1] = narrow32(missing);
+}
+
+// One less, but not below 0.
+fn less(n: u32) -> u32
+    ensures { λ r. ⌜ r ≡ n - 1 ⌝ }
+{
+    if n == 0 { 0 } else { n - 1 }
+}
+
+// One less of the group of row i is missing.
+pub fn lower_missing(rows: &mut [u32], i: usize)
+    requires { ⌜ i < length (hand (now rows)) ⌝ }
+    ensures { λ _. ⌜ hand (now (rows .exit)) ≡ putMissing (hand (now (rows .entry))) i (missingAt (hand (now (rows .entry))) i - 1) ⌝ }
+{
+    let n = less(missing_word(rows, i));
+    rows[i * ROW + 1] = n;
+}
+
+// The record of row i is set to v.
+pub fn put_record(rows: &mut [u32], i: usize, v: Record)
+    requires { ⌜ i < length (hand (now rows)) ⌝ }
+    ensures { λ _. ⌜ hand (now (rows .exit)) ≡ put (hand (now (rows .entry))) i v ⌝ }
+{
+    put_words(rows, i * ROW + 2, v);
+}
+
+// Row i is set to v at slot s with n missing.
+fn put_row(rows: &mut [u32], i: usize, s: u32, n: u32, v: Record)
+    requires { ⌜ i < length (hand (now rows)) ⌝ }
+    ensures { λ _. ⌜ hand (now (rows .exit)) ≡ set (hand (now (rows .entry))) i (record { slot = s; missing = n; it = v }) ⌝ }
+{
+    rows[i * ROW] = s;
+    rows[i * ROW + 1] = n;
+    put_record(rows, i, v);
+}
+
+// The first record of the table that is free, or the number of rows where each is in use and they are the first of the table. The hand is the first m rows.
+pub fn first_free(rows: &[u32], m: usize) -> usize
+    requires { ⌜ m ≤ length (hand (now rows)) ⌝ }
+    ensures { λ r. ⌜ FirstFree m (take m (hand (now (rows .entry)))) r ⌝ }
+{
+    let mut i = 0;
+    while i < m {
+        let s = slot_at(rows, i);
+        if s != i {
+            return i;
+        }
+        let v = record_at(rows, i);
+        if v.in_use != 1 {
+            return i;
+        }
+        i += 1;
+    }
+    m
+}
+
+// Rows r to m - 1 move on by one.
+fn shift(rows: &mut [u32], r: usize, m: usize)
+    requires { ⌜ (r ≤ m) × (m < length (hand (now rows))) ⌝ }
+    ensures { λ _. ⌜ Shifted r m (hand (now (rows .entry))) (hand (now (rows .exit))) ⌝ }
+{
+    let mut i = m;
+    while r < i {
+        let s = slot_word(rows, i - 1);
+        let n = missing_word(rows, i - 1);
+        let v = record_at(rows, i - 1);
+        put_row(rows, i, s, n, v);
+        i -= 1;
+    }
+}
+
+// Row r, one of the first m, has slot r.
+fn has_row(rows: &[u32], m: usize, r: usize) -> bool
+    requires { ⌜ m ≤ length (hand (now rows)) ⌝ }
+    ensures { λ b. ⌜ (b ≡ true → (r < m) × (slotAt (hand (now (rows .entry))) r ≡ r)) × (b ≡ false → r < m → slotAt (hand (now (rows .entry))) r ≡ r → ⊥) ⌝ }
+{
+    if m <= r {
+        return false;
+    }
+    let s = slot_at(rows, r);
+    if s != r {
+        return false;
+    }
+    true
+}
+
+// A record goes into the first free record of the table: into its row, or into a new one. The hand is the first m rows, and the answer how many it is then.
+pub fn hold(rows: &mut [u32], m: usize, v: Record) -> usize
+    requires { ⌜ (m < length (hand (now rows))) × (m < 65536) ⌝ }
+    ensures { λ n. ⌜ (take n (hand (now (rows .exit))) ≡ holdIn 0 v (take m (hand (now (rows .entry))))) × (n ≤ m + 1) ⌝ }
+{
+    let r = first_free(rows, m);
+    if has_row(rows, m, r) {
+        put_record(rows, r, v);
+        return m;
+    }
+    shift(rows, r, m);
+    put_row(rows, r, narrow32(r), 0, v);
+    m + 1
+}
+
+// Record r of the table, v, becomes row n where its mark is not 0. The answer is how many rows there are now, or most + 1.
+fn take_in(rows: &mut [u32], n: usize, most: usize, r: usize, v: Record) -> usize
+    requires { ⌜ (most ≤ length (hand (now rows))) × (r < 65536) ⌝ }
+    ensures { λ m. ⌜ ((gs : List Row) → Gathered most n (hand (now (rows .entry))) gs → Gathered most m (hand (now (rows .exit))) (more gs r v)) ⌝ }
+{
+    if v.in_use == 0 {
+        return n;
+    }
+    if n >= most {
+        return most + 1;
+    }
+    put_row(rows, n, narrow32(r), 0, v);
+    n + 1
+}
+
+// The records in use among the first k of the table become the first rows. The answer is how many they are, or most + 1 where they are more than most.
+pub fn gather(table: &[Record], k: usize, rows: &mut [u32], most: usize) -> usize
+    requires { ⌜ (k ≤ length (now table)) × (k ≤ 65536) × (most ≤ length (hand (now rows))) ⌝ }
+    ensures { λ n. ⌜ Gathered most n (hand (now (rows .exit))) (gathered k (now (table .entry))) ⌝ }
+{
+    let mut n = 0;
+    let mut i = 0;
+    while i < k {
+        n = take_in(rows, n, most, i, table[i]);
+        i += 1;
+    }
+    n
+}
+
+// The first m rows over the table, each at its slot.
+pub fn scatter_back(table: &mut [Record], rows: &[u32], m: usize)
+    requires { ⌜ (m ≤ length (hand (now rows))) × Within (length (now table)) (take m (hand (now rows))) ⌝ }
+    ensures { λ _. ⌜ now (table .exit) ≡ scatter (take m (hand (now (rows .entry)))) (now (table .entry)) ⌝ }
+{
+    let mut i = m;
+    while 0 < i {
+        i -= 1;
+        let s = slot_at(rows, i);
+        table[s] = record_at(rows, i);
+    }
+}
+
+// The first k records of the table are free.
+pub fn wipe(table: &mut [Record], k: usize)
+    requires { ⌜ k ≤ length (now table) ⌝ }
+    ensures { λ _. ⌜ now (table .exit) ≡ wiped k (now (table .entry)) ⌝ }
+{
+    let mut i = 0;
+    while i < k {
+        table[i] = Record {
+            stream: 0,
+            in_use: 0,
+            snbase: 0,
+            timestamp_recovery: 0,
+        };
+        i += 1;
+    }
+}

@@ -1,4 +1,0 @@
-pub mod Table
-pub mod Work
-pub mod Whole
-pub mod Idle
