@@ -4,6 +4,7 @@ mod plain;
 mod traffic;
 
 use congaveil::{Outer, Receiver, Refusal, SetUp, PARITY_HEADER};
+use plain::Aligned;
 use std::{hint::black_box, time::Instant};
 use traffic::{media, parity, Stretch};
 
@@ -59,15 +60,23 @@ fn writing() {
         assert_eq!(sums[i], out[i][PARITY_HEADER..], "parity {i}");
     }
     let constants = median(2001, || (), |_| plain::parity_of_constants::<10, 10, P>(black_box(&payloads), &mut sums));
-    let isal = median(2001, || (), |_| plain::parity_by_isal(black_box(&payloads), 10, 10, P, &mut sums));
     for i in 0..20 {
         assert_eq!(sums[i], out[i][PARITY_HEADER..], "parity {i}");
+    }
+    let mut aligned = [Aligned([0; 1344]); 100];
+    for (to, from) in aligned.iter_mut().zip(payloads.chunks_exact(P)) {
+        to.0[..P].copy_from_slice(from);
+    }
+    let mut by_isal = [Aligned([0; 1344]); 20];
+    let isal = median(2001, || (), |_| plain::parity_by_isal(black_box(&aligned), 10, 10, P, &mut by_isal));
+    for i in 0..20 {
+        assert_eq!(by_isal[i].0[..P], out[i][PARITY_HEADER..], "parity {i}");
     }
     println!("writing the 20 parity packets of a 10 x 10 matrix, P 1316, n 100, K 40, headers included");
     println!("  ours                                        {ours:9.0} ns");
     println!("  plain loops, L, D and P at run time         {run_time:9.0} ns   ours is {:.3} of it", ours / run_time);
     println!("  plain loops, L, D and P constants           {constants:9.0} ns   ours is {:.2} of it", ours / constants);
-    println!("  ISA-L's xor_gen on the same payloads        {isal:9.0} ns   ours is {:.2} of it", ours / isal);
+    println!("  ISA-L's xor_gen, payloads aligned to 32     {isal:9.0} ns   ours is {:.2} of it", ours / isal);
 }
 
 /// A media packet in good weather: every packet of the window in turn, none lost; the store and the datagrams are the working set.
@@ -170,11 +179,7 @@ fn main() {
     }
     println!("\na media packet that rebuilds nothing, into a cold copy of the store, L 4, D 4, P 1316; a row parity packet that finds none missing");
     for (n, k, used) in [(200, 40, 0), (200, 40, 1), (200, 40, 10), (400, 128, 0), (400, 128, 1), (400, 128, 10), (400, 128, 100)] {
-        println!(
-            "  n {n:3}, K {k:3}, {used:3} in use  {:7.0} ns {:7.0} ns",
-            stores(n, k, used, 1316),
-            finds_none(n, k, used, 1316)
-        );
+        println!("  n {n:3}, K {k:3}, {used:3} in use  {:7.0} ns {:7.0} ns", stores(n, k, used, 1316), finds_none(n, k, used, 1316));
     }
     println!("\na media packet that rebuilds one other, n 100, K 40");
     for (na, p) in [(5, 1316), (10, 1316), (20, 1316), (10, 188)] {

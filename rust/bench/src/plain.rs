@@ -52,12 +52,17 @@ extern "C" {
     fn xor_gen(vects: c_int, len: c_int, array: *mut *mut c_void) -> c_int;
 }
 
+/// Room for a payload where ISA-L asks for it: at an address that is a multiple of 32.
+#[derive(Clone, Copy)]
+#[repr(align(32))]
+pub struct Aligned(pub [u8; 1344]);
+
 /// ISA-L's xor_gen, one call a group: it reads the payloads where they lie and writes the parity payload.
-pub fn parity_by_isal(payloads: &[u8], l: usize, d: usize, p: usize, out: &mut [[u8; 1316]]) {
-    let one = |start: usize, offset: usize, na: usize, to: &mut [u8; 1316]| {
-        let mut parts: Vec<*mut c_void> = (0..na).map(|j| payloads[(start + j * offset) * p..][..p].as_ptr() as *mut c_void).collect();
-        parts.push(to.as_mut_ptr().cast());
-        // SAFETY: na sources and an output of p bytes each; xor_gen writes to the last only.
+pub fn parity_by_isal(payloads: &[Aligned], l: usize, d: usize, p: usize, out: &mut [Aligned]) {
+    let one = |start: usize, offset: usize, na: usize, to: &mut Aligned| {
+        let mut parts: Vec<*mut c_void> = (0..na).map(|j| payloads[start + j * offset].0[..p].as_ptr() as *mut c_void).collect();
+        parts.push(to.0[..p].as_mut_ptr().cast());
+        // SAFETY: na sources and an output of p bytes each, aligned; xor_gen writes to the last only.
         let failed = unsafe { xor_gen(parts.len() as c_int, p as c_int, parts.as_mut_ptr()) };
         assert_eq!(failed, 0);
     };
