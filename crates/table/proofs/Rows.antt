@@ -1,6 +1,6 @@
 -- A row is written, and one record more is gathered. Assumes nothing.
 use mathlib.Core.Path.{_≡_, refl, sym, ap, _∙_}
-use mathlib.Core.Bool.{Bool, true, false, cond}
+use mathlib.Core.Bool.{Bool, true, false, cond, not, true≢false, _||_}
 use mathlib.Core.List.{List, [], _∷_, _++_}
 use Prim.Native.Nat.{ℕ, zero, _+_, _-_, _*_, _<_, _≤_, suc}
 use native.Mathlib.Omega.{arith}
@@ -8,7 +8,7 @@ use native.Mathlib.Numerals.{add-one}
 use lib.Dec.{eqb, ltb}
 use lib.ListN.{length, getD, set, take, drop, length-append, length-set, length-drop, replicate, length-replicate, replicate-append-replicate}
 use lib.Seq.{set-at, append-snoc, take-suc-set, length-take-le, drop-length, drop-cons, getD-take}
-use borrow.Author.Tests.{eq-eqb, ne-eqb, lt-ltb, le-ltb, ltb-true, ltb-false}
+use borrow.Author.Tests.{not-false, eq-eqb, eqb-true, ne-eqb, lt-ltb, le-ltb, ltb-true, ltb-false}
 use Rattle.window.specs.declared.Record.{Record}
 use Rattle.window.specs.Record.{blank}
 use Rattle.table.specs.View.{Row, nobody, hand, slotAt, missingAt, put, putMissing, itAt, scatter}
@@ -75,14 +75,32 @@ module _ (most n r : ℕ) (v : Record) (hs gs : List Row) (g : Gathered most n h
       rw (ne-eqb (v .«in_use») 0 u) (record { count = rw (le-ltb most (length (gs ++ (row ∷ []))) k) (omega (arith, longer)); these = λ _. t })
 
 -- of no record none is gathered
-pub none-yet : (most : ℕ) (hs : List Row) (t : List Record) → Gathered most 0 hs (gathered 0 t)
+pub none-gathered : (t : List Record) → gathered 0 t ≡ []
 unfolding gathered
-none-yet most hs t = record { count = rw (le-ltb most 0 (omega arith)); these = λ _. refl }
+none-gathered t = refl
+
+-- where none is gathered no row is there yet
+pub none-yet : (most : ℕ) (hs gs : List Row) → gs ≡ [] → Gathered most 0 hs gs
+none-yet most hs gs e = rw e (record { count = rw (le-ltb most 0 (omega arith)); these = λ _. refl })
 
 -- one record more is gathered
 pub one-more : (r : ℕ) (t : List Record) → more (gathered r t) r (getD t r blank) ≡ gathered (r + 1) t
 unfolding gathered
 one-more r t = rw (add-one r)
+
+-- neither was one found, nor is this one
+pub neither : (found : Bool) (n : ℕ) → (found || not (eqb n 0)) ≡ false → (found ≡ false) × (n ≡ 0)
+neither true n e = absurd (true≢false e)
+neither false n e = (refl, eqb-true n 0 (not-false (eqb n 0) e))
+
+-- a free record more, and still none is gathered
+pub none-more : (t : List Record) (r : ℕ) → gathered r t ≡ [] → getD t r blank .«in_use» ≡ 0 → gathered (r + 1) t ≡ []
+none-more t r e z = sym (one-more r t) ∙ rw (eq-eqb (getD t r blank .«in_use») 0 z) e
+
+-- all k, or none
+pub all-or-none : (t : List Record) (k : ℕ) (found : Bool) (r : ℕ) → (found ≡ false → gathered k t ≡ []) → r ≡ cond found 0 k → (r ≤ k) × (gathered r t ≡ [])
+all-or-none t k true r f e = rw e (omega arith, none-gathered t)
+all-or-none t k false r f e = rw e (omega arith, f refl)
 
 -- rows i and on are back in the table
 abbrev pub back : List Row → ℕ → List Record → List Record

@@ -1,8 +1,8 @@
 // The records in use, each with its slot and how many of its group are missing: one slice of words, six to a row, seen through one view, `hand`.
 use window::Record;
 ghost use mathlib.Core.Path.{_≡_};
-ghost use mathlib.Core.Bool.{true, false};
-ghost use mathlib.Core.List.{List};
+ghost use mathlib.Core.Bool.{true, false, cond};
+ghost use mathlib.Core.List.{List, []};
 ghost use Prim.Native.Nat.{_+_, _-_, _<_, _≤_};
 ghost use lib.ListN.{length, set, take};
 ghost use Rattle.window.specs.declared.Record.{Record};
@@ -232,13 +232,41 @@ fn take_in(rows: &mut [u32], n: usize, most: usize, r: usize, v: Record) -> usiz
     n + 1
 }
 
+// A record that is not free was found before, or this is one.
+fn or_taken(found: bool, v: Record) -> bool
+    ensures { λ r. ⌜ (r ≡ false → (found ≡ false) × (v .in_use ≡ 0)) ⌝ }
+{
+    found | (v.in_use != 0)
+}
+
+// All k, or none where a record that is not free was found.
+fn all_or_none(found: bool, k: usize) -> usize
+    ensures { λ r. ⌜ r ≡ cond found 0 k ⌝ }
+{
+    if found { 0 } else { k }
+}
+
+// How many records at the front of the table need no second look: the first k where all are free, or none. Eight bytes of marks are looked at at once.
+fn free_front(table: &[Record], k: usize) -> usize
+    requires { ⌜ k ≤ length (now table) ⌝ }
+    ensures { λ r. ⌜ (r ≤ k) × (gathered r (now (table .entry)) ≡ []) ⌝ }
+{
+    let mut found = false;
+    let mut i = 0;
+    while i < k {
+        found = or_taken(found, table[i]);
+        i += 1;
+    }
+    all_or_none(found, k)
+}
+
 // The records in use among the first k of the table become the first rows. The answer is how many they are, or most + 1 where they are more than most.
 pub fn gather(table: &[Record], k: usize, rows: &mut [u32], most: usize) -> usize
     requires { ⌜ (k ≤ length (now table)) × (k ≤ 65536) × (most ≤ length (hand (now rows))) ⌝ }
     ensures { λ n. ⌜ Gathered most n (hand (now (rows .exit))) (gathered k (now (table .entry))) ⌝ }
 {
     let mut n = 0;
-    let mut i = 0;
+    let mut i = free_front(table, k);
     while i < k {
         n = take_in(rows, n, most, i, table[i]);
         i += 1;
