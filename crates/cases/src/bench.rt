@@ -5,6 +5,7 @@ use super::wire;
 use answer::Answer;
 use receiver::Receiver;
 use receiver::Step;
+use window::Record;
 ghost use Prim.Native.Nat.{_≤_};
 
 // The parts have one element more than 16 positions and 8 records need; of the parity payloads all but one of the bytes that
@@ -15,7 +16,7 @@ pub struct Bench {
     pub timestamps: [u32; 17],
     pub marks: [u8; 17],
     pub parity: [u8; 1691],
-    pub words: [u32; 60],
+    pub words: [u32; 30],
     pub answer: Answer,
     pub receiver: Receiver,
 }
@@ -29,21 +30,23 @@ pub struct Wrote {
 // How many records there are.
 const RECORDS: usize = 9;
 
-// Row i at slot i, with a mark, and one number in the other words of its record.
-fn filled_row(rows: [u32; 60], i: usize, mark: u32, other: u32) -> [u32; 60]
+// Row i at slot i, with a mark, and one number in the other fields of its record.
+fn filled_row(rows: [u32; 30], i: usize, mark: u8, other: u8) -> [u32; 30]
     requires { ⌜ i ≤ 8 ⌝ }
 {
     let mut words = rows;
-    words[i * table::ROW] = i as u32;
-    words[i * table::ROW + 2] = other;
-    words[i * table::ROW + 3] = mark;
-    words[i * table::ROW + 4] = other;
-    words[i * table::ROW + 5] = other;
+    let v = Record {
+        stream: other,
+        in_use: mark,
+        snbase: other as u16,
+        timestamp_recovery: other as u32,
+    };
+    table::put_row(&mut words, i, i as u32, 0, v);
     words
 }
 
 // The first rows, each filled so.
-fn filled_rows(rows: [u32; 60], count: usize, mark: u32, other: u32) -> [u32; 60]
+fn filled_rows(rows: [u32; 30], count: usize, mark: u8, other: u8) -> [u32; 30]
     requires { ⌜ count ≤ 9 ⌝ }
 {
     let mut words = rows;
@@ -87,7 +90,7 @@ pub fn open(l: usize, d: usize, p: usize, n: usize, k: usize, whole: bool) -> Be
         &mut parity,
         RECORDS,
     );
-    let old = filled_rows([85u32; 60], RECORDS, 8, 85);
+    let old = filled_rows([85u32; 30], RECORDS, 8, 85);
     let words = filled_rows(old, opening.records, 0, 0);
     let answer = opening.answer;
     let receiver = opening.receiver;
@@ -131,7 +134,7 @@ fn hand_in(
     t: &mut [u32; 17],
     k: &mut [u8; 17],
     p: &mut [u8; 1691],
-    h: &mut [u32; 60],
+    h: &mut [u32; 30],
 ) -> Step {
     let e = bytes_of(m.len(), whole);
     let rows = rows_of(w);
@@ -188,7 +191,7 @@ fn hand_out(
     t: &[u32],
     k: &[u8],
     p: &[u8],
-    h: &mut [u32; 60],
+    h: &mut [u32; 30],
     out: &mut [u8],
 ) -> Step {
     let e = bytes_of(m.len(), whole);
@@ -228,15 +231,32 @@ pub fn write(bench: Bench, kind: u64, number: u16, what: u64, value: u16) -> Wro
     Wrote { answer, out }
 }
 
-// The word of a row that a step sets.
-fn word_of(kind: u64) -> usize
-    ensures { λ r. ⌜ r ≤ 5 ⌝ }
-{
+// A record with the field that a step names set.
+fn changed(v: Record, kind: u64, value: u16) -> Record {
+    let mut next = v;
     match kind {
-        script::STREAM => 2,
-        script::IN_USE => 3,
-        _ => 4,
+        script::STREAM => {
+            next.stream = rtp::low(value);
+        }
+        script::IN_USE => {
+            next.in_use = rtp::low(value);
+        }
+        _ => {
+            next.snbase = value;
+        }
     }
+    next
+}
+
+// The rows with the record of one of them changed.
+fn changed_row(rows: [u32; 30], i: usize, kind: u64, value: u16) -> [u32; 30]
+    requires { ⌜ i ≤ 8 ⌝ }
+{
+    let mut words = rows;
+    let v = table::record_at(&words, i);
+    let next = changed(v, kind, value);
+    table::put_record(&mut words, i, next);
+    words
 }
 
 // An element of the store is set from outside.
@@ -252,7 +272,9 @@ pub fn poke(b: Bench, kind: u64, number: u16, value: u16) -> Bench {
             bench.media[i] = rtp::low(value);
         }
     } else if i < RECORDS {
-        bench.words[i * table::ROW + word_of(kind)] = value as u32;
+        let words = bench.words;
+        let next = changed_row(words, i, kind, value);
+        bench.words = next;
     }
     bench
 }

@@ -65,7 +65,7 @@ fn written(b: Bench, kind: u64, number: u16, what: u64, value: u16) {
 fn shown(b: Bench) {
     let marks = b.marks;
     let words = b.words;
-    show::marks(&marks, &words);
+    show::marks(&marks, words);
 }
 
 // A call is made, and its line shown.

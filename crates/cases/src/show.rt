@@ -2,6 +2,7 @@
 use super::script;
 use answer::Answer;
 use libc::STDOUT_FILENO;
+use window::Record;
 
 // Words.
 pub fn text(words: &[u8]) {
@@ -58,22 +59,22 @@ fn row_of(marks: &[u8]) {
     }
 }
 
-// The in-use mark of a row.
-fn in_use(word: u32) {
-    decimal(word as usize);
+// The in-use mark of a record.
+fn in_use(v: Record) {
+    decimal(v.in_use as usize);
 }
 
 // The in-use marks of nine rows side by side.
-fn uses_of(words: &[u32; 60]) {
+fn uses_of(words: [u32; 30]) {
     let mut i = 0;
     while i < 9 {
-        in_use(words[i * table::ROW + 3]);
+        in_use(table::record_at(&words, i));
         i += 1;
     }
 }
 
 // The marks of the positions and of the records.
-pub fn marks(present: &[u8], words: &[u32; 60]) {
+pub fn marks(present: &[u8], words: [u32; 30]) {
     text(b"  present ");
     row_of(present);
     text(b", in use ");

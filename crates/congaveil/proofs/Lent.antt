@@ -8,7 +8,7 @@
 -- Assumes `Given`, and that what is called meets its contract.
 use mathlib.Core.Path.{_≡_, refl, sym, ap, subst, _∙_}
 use mathlib.Core.List.{List, [], _∷_}
-use Prim.Native.Nat.{ℕ, _<_, _≤_, _^_}
+use Prim.Native.Nat.{ℕ, _+_, _<_, _≤_, _^_}
 use native.Mathlib.Omega.{arith}
 use lib.Dec.{T, lit<}
 use lib.ListN.{length, take}
@@ -61,7 +61,8 @@ use Rattle.table.proofs.wipe as wipe
 use Rattle.table.proofs.wipe.Symbol.{name as #wipe}
 use Rattle.face.specs.declared.Reply.{Reply}
 use Rattle.face.specs.Reply.{Replied}
-use Rattle.face.specs.Done.{reached, Lent}
+use Rattle.window.specs.Limits.{mostRecords}
+use Rattle.face.specs.Done.{reached, handWords, Lent}
 use Rattle.face.proofs.reach as reach
 use Rattle.face.proofs.reach.Symbol.{name as #reach}
 use Rattle.face.proofs.blanks as blanks
@@ -69,10 +70,10 @@ use Rattle.face.proofs.blanks.Symbol.{name as #blanks}
 use Rattle.congaveil.proofs.Shared.{LentShared, lends-shared, shared-back}
 
 abbrev pub Words : RattleType
-Words = Array u32 774
+Words = Array u32 handWords
 
 abbrev pub words-ty : Ty
-words-ty = tyArray (tyInt w32) 774
+words-ty = tyArray (tyInt w32) handWords
 
 -- the machine value of an array of words
 abbrev pub valueOf : List ℕ → Val
@@ -97,13 +98,13 @@ abbrev pub Owed : ℕ → List ℕ → ℕ → GName → Fml
 Owed l ws ν δ = flent (ν ∷ []) (Held u32 (length ws) l 0 δ)
 
 tells : (ws : List ℕ) (vs : List Val) → Is Words ws vs → vs ≡ valueOf ws ∷ []
-tells = array-tells u32 (uint-vals w32) (uint-tells w32) 774
+tells = array-tells u32 (uint-vals w32) (uint-tells w32) handWords
 
-room : (ws : List ℕ) → length ws ≡ 774 → Room u32 (length ws)
+room : (ws : List ℕ) → length ws ≡ handWords → Room u32 (length ws)
 room ws e = subst (Room u32) (sym e) (lit< tt, lit< tt)
 
-fits-gather : (k len n : ℕ) (ws : List ℕ) → n ≡ reached len k → length ws ≡ 774 → (n ≤ len) × (n ≤ 65536) × (128 ≤ length (hand ws))
-fits-gather k len n ws e l = (omega arith, omega arith, omega (arith, length-hand 129 ws l))
+fits-gather : (k len n : ℕ) (ws : List ℕ) → n ≡ reached len k → length ws ≡ handWords → (n ≤ len) × (n ≤ 65536) × (128 ≤ length (hand ws))
+fits-gather k len n ws e l = (omega arith, omega arith, omega (arith, length-hand (mostRecords + 1) ws l))
 
 was-lent : (k m n : ℕ) (ws : List ℕ) (t : List Record) → n ≡ reached (length t) k → Gathered 128 m (hand ws) (gathered n t) → Lent (length t) k m ws t
 was-lent k m n ws t e g = record { sized = refl; is = subst (λ (i : ℕ). Gathered 128 m (hand ws) (gathered i t)) e g }
@@ -129,24 +130,24 @@ module _ {M : Type 1} (𝓤 : URA M) (H : Heap 𝓤) (A : Atoms 𝓤) (at-mem : 
 
 module _ {M : Type 1} (𝓤 : URA M) (H : Heap 𝓤) (A : Atoms 𝓤) (W : Given 𝓤 H A) where
   pub typed : (ws : List ℕ) (v : Val) → Is Words ws (v ∷ []) → T (hasTy words-ty v) × WT v
-  typed ws v p = array-typed u32 (uint-lawful 𝓤 H A W w32 .typed) 774 ws (v ∷ []) p .0
+  typed ws v p = array-typed u32 (uint-lawful 𝓤 H A W w32 .typed) handWords ws (v ∷ []) p .0
 
   pub apart : (ws : List ℕ) (v : Val) (l : ℕ) → ent 𝓤 (sep 𝓤 (H .at fullShare words-ty l 0 v) (sem 𝓤 H A (Words .own ws (v ∷ [])))) (sem 𝓤 H A (Lie l ws))
   unfolding partOf
   apart ws v l =
       qed W (‵ (fat fullShare words-ty l 0 v) ∷ ‵ (Words .own ws (v ∷ [])) ∷ []) ∵
       use1 W (‵ (cellAt fullShare (Words .mir) (v ∷ []) l 0)) (W .laws .at-raw fullShare words-ty l 0 v) $ fjoin ! $ fpack ! (List Val) (λ vs. fsep (cellAt fullShare (Words .mir) vs l 0) (Words .own ws vs)) (v ∷ []) $
-      use1 W (‵ (arr-parts (shares u32) 774 .part fullShare ws l 0)) (array-apart 𝓤 H A W u32 fullShare tt 774 ws l 0) $ fsplit ! $ feqL ! (λ _. done !)
+      use1 W (‵ (arr-parts (shares u32) handWords .part fullShare ws l 0)) (array-apart 𝓤 H A W u32 fullShare tt handWords ws l 0) $ fsplit ! $ feqL ! (λ _. done !)
 
-  pub together : (ws : List ℕ) (l : ℕ) → length ws ≡ 774 → ent 𝓤 (sem 𝓤 H A (Lie l ws)) (sep 𝓤 (H .at fullShare words-ty l 0 (valueOf ws)) (sem 𝓤 H A (Words .own ws (valueOf ws ∷ []))))
+  pub together : (ws : List ℕ) (l : ℕ) → length ws ≡ handWords → ent 𝓤 (sem 𝓤 H A (Lie l ws)) (sep 𝓤 (H .at fullShare words-ty l 0 (valueOf ws)) (sem 𝓤 H A (Words .own ws (valueOf ws ∷ []))))
   unfolding partOf
   together ws l e =
-      qed W (‵ (Lie l ws) ∷ []) ∵ feqI ! ℕ (length ws) 774 e $ fjoin ! $ use1 W (‵ (partAt Words fullShare ws l 0)) (array-whole 𝓤 H A W u32 fullShare 774 ws l 0) $ fpick ! (λ vs. fsplit ! $
+      qed W (‵ (Lie l ws) ∷ []) ∵ feqI ! ℕ (length ws) handWords e $ fjoin ! $ use1 W (‵ (partAt Words fullShare ws l 0)) (array-whole 𝓤 H A W u32 fullShare handWords ws l 0) $ fpick ! (λ vs. fsplit ! $
       move ! (1 ∷ []) $ peeks ! Words (Is Words) (shows 𝓤 H A Words) ws vs (λ p.
       rewrite ! 0 (λ (us : List Val). ‵ (Words .own ws us)) (tells ws vs p) refl $ rewrite ! 1 (λ (us : List Val). ‵ (cellAt fullShare (Words .mir) us l 0)) (tells ws vs p) refl $
       move ! (1 ∷ []) $ use1 W (‵ (fat fullShare words-ty l 0 (valueOf ws))) (W .laws .raw-at fullShare words-ty l 0 _) $ frame ! $ done !))
 
-  module _ (l : ℕ) (ws : List ℕ) (lw : length ws ≡ 774) {Γ : List (Item 𝓤)} {G : Goal 𝓤 H} (a : Soaks G) where
+  module _ (l : ℕ) (ws : List ℕ) (lw : length ws ≡ handWords) {Γ : List (Item 𝓤)} {G : Goal 𝓤 H} (a : Soaks G) where
     pub lends-words : (ℓ : Lifetime) → ((ν : ℕ) (δ : GName) → Sq W (‵ (MutSlice ℓ (ν ∷ []) u32 .own (lying l ws δ) (slice-of l ws ∷ [])) ∷ ‵ (flft (ν ∷ []) fullShare) ∷ ‵ (Owed l ws ν δ) ∷ Γ) G) → Sq W (‵ (Lie l ws) ∷ Γ) G
     lends-words ℓ k =
         lft-new ! a (λ ν. move ! (1 ∷ []) $ use1 W (‵ (cells (mem u32) ws l 0)) (whole-in 𝓤 H A W u32 ws l 0) $
@@ -177,8 +178,8 @@ module _ {M : Type 1} (𝓤 : URA M) (H : Heap 𝓤) (A : Atoms 𝓤) (W : Given
     goes-blanks : ent 𝓤 (emp 𝓤) (Blanks 𝓤 H A at-mem run .pre to-blanks)
     goes-blanks = qed W [] ∵ nothing ! $ nothing ! $ join ! $ frame ! $ done !
 
-    said-blanks : (r : List ℕ) → ent 𝓤 (ensured 𝓤 H A blanks.ended (blanks.clauses 𝓤 H A at-mem run) tt tt tt r) (fact 𝓤 (length r ≡ 774))
-    said-blanks r = exE 𝓤 _ (λ zs. snd∗ 𝓤 (sem 𝓤 H A (lasts blanks.ended tt tt zs)) (fact 𝓤 (length r ≡ 774)))
+    said-blanks : (r : List ℕ) → ent 𝓤 (ensured 𝓤 H A blanks.ended (blanks.clauses 𝓤 H A at-mem run) tt tt tt r) (fact 𝓤 (length r ≡ handWords))
+    said-blanks r = exE 𝓤 _ (λ zs. snd∗ 𝓤 (sem 𝓤 H A (lasts blanks.ended tt tt zs)) (fact 𝓤 (length r ≡ handWords)))
 
     module _ {Γ : List (Item 𝓤)} {C : Calls 𝓤 H} {Λ : Loops 𝓤 H} {E : Env 𝓤 H} {xs : List Operand} {d : Place} {rest : Body} {p : Post 𝓤 H} (fm : FmC 𝓤 H (W .laws) C) where
       pub reaches : (len k : ℕ) → len < 2 ^ 64 → k < 2 ^ 64 → Triple 𝓤 (C #reach) (Reach 𝓤 H A at-mem run)
@@ -191,15 +192,15 @@ module _ {M : Type 1} (𝓤 : URA M) (H : Heap 𝓤) (A : Atoms 𝓤) (W : Given
           peeks ! usize (Is usize) (shows 𝓤 H A usize) n (u ∷ []) (λ is. drop ! $ as-number n u is (next n e (is .1))))))
 
       pub blanked : Triple 𝓤 (C #blanks) (Blanks 𝓤 H A at-mem run) → Opds (Go {0}) W (raw (Blanks 𝓤 H A at-mem run .pre to-blanks) ∷ Γ) E xs []
-          → ((ws : List ℕ) (u : Val) → length ws ≡ 774 → Is Words ws (u ∷ []) → Sq W (‵ (Words .own ws (u ∷ [])) ∷ Γ) (lands C Λ E d u rest p)) → Sq W Γ (runs C Λ E (seq (call #blanks xs d) rest) p)
+          → ((ws : List ℕ) (u : Val) → length ws ≡ handWords → Is Words ws (u ∷ []) → Sq W (‵ (Words .own ws (u ∷ [])) ∷ Γ) (lands C Λ E d u rest p)) → Sq W Γ (runs C Λ E (seq (call #blanks xs d) rest) p)
       blanked known os next =
           use0 W (raw (Blanks 𝓤 H A at-mem run .pre to-blanks)) goes-blanks $ calls-at ! fm (Blanks 𝓤 H A at-mem run) known to-blanks os (λ u.
           use1 W (later (some (λ (r : List ℕ). (‵ ftrue ⊛ ‵ (Words .own r (u ∷ []))) ⊛ raw (ensured 𝓤 H A blanks.ended (blanks.clauses 𝓤 H A at-mem run) tt tt tt r)))) (id⊢ 𝓤 _) $ await ! tt $ pick ! (λ ws.
-          split ! $ move ! (1 ∷ []) $ use1 W (raw (fact 𝓤 (length ws ≡ 774))) (said-blanks ws) $ heard ! (length ws ≡ 774) (λ e. split ! $ drop ! $
+          split ! $ move ! (1 ∷ []) $ use1 W (raw (fact 𝓤 (length ws ≡ handWords))) (said-blanks ws) $ heard ! (length ws ≡ handWords) (λ e. split ! $ drop ! $
           peeks ! Words (Is Words) (shows 𝓤 H A Words) ws (u ∷ []) (λ is. next ws u e is))))
 
     -- the table, the words at l, and how many records are looked through
-    module _ (l : ℕ) (ws : List ℕ) (lw : length ws ≡ 774) (k n : ℕ) (gn : n < 2 ^ 64) where
+    module _ (l : ℕ) (ws : List ℕ) (lw : length ws ≡ handWords) (k n : ℕ) (gn : n < 2 ^ 64) where
       abbrev pub to-gather : Lft → Share → RefT (List Record) → ℕ → GName → Gather 𝓤 H A at-mem run .Ghost
       to-gather κ q x ν δ = (((κ, (ν ∷ [], tt)), (q, (fullShare, tt)), tt, (x, (n, (lying l ws δ, (128, tt)))), (table-of x ∷ [], (vint w64 n ∷ [], (slice-of l ws ∷ [], (vint w64 128 ∷ [], tt))))), tt)
 
@@ -213,7 +214,7 @@ module _ {M : Type 1} (𝓤 : URA M) (H : Heap 𝓤) (A : Atoms 𝓤) (W : Given
 
         module _ {Γ : List (Item 𝓤)} {C : Calls 𝓤 H} {Λ : Loops 𝓤 H} {E : Env 𝓤 H} {xs : List Operand} {d : Place} {rest : Body} {p : Post 𝓤 H} (fm : FmC 𝓤 H (W .laws) C) (known : Triple 𝓤 (C #gather) (Gather 𝓤 H A at-mem run)) where
           pub passes : ((ν : ℕ) (δ : GName) → Opds (Go {0}) W (raw (Gather 𝓤 H A at-mem run .pre (to-gather κ q x ν δ)) ∷ ‵ (Owed l ws ν δ) ∷ Γ) E xs (table-of x ∷ vint w64 n ∷ slice-of l ws ∷ vint w64 128 ∷ []))
-              → ((ts : List ℕ) (m : ℕ) → Lent (length (x .now)) k m ts (x .now) → length ts ≡ 774 → m < 2 ^ 64 → Sq W (‵ (flft κ q) ∷ ‵ (Lie l ts) ∷ Γ) (lands C Λ E d (vint w64 m) rest p))
+              → ((ts : List ℕ) (m : ℕ) → Lent (length (x .now)) k m ts (x .now) → length ts ≡ handWords → m < 2 ^ 64 → Sq W (‵ (flft κ q) ∷ ‵ (Lie l ts) ∷ Γ) (lands C Λ E d (vint w64 m) rest p))
               → Sq W (‵ (ShrSlice ℓ κ T.the-row .own x (table-of x ∷ [])) ∷ ‵ (flft κ q) ∷ ‵ (Lie l ws) ∷ Γ) (runs C Λ E (seq (call #gather xs d) rest) p)
           passes os next =
               move ! (2 ∷ []) $ lends-words l ws lw tt (named 1) (λ ν δ. move ! (4 ∷ 1 ∷ []) $ join ! $ move ! (1 ∷ 0 ∷ []) $ join ! $ move ! (2 ∷ 0 ∷ []) $ join ! $ use1 W (raw (Gather 𝓤 H A at-mem run .pre (to-gather κ q x ν δ))) (goes-gather ν δ) $
@@ -238,7 +239,7 @@ module _ {M : Type 1} (𝓤 : URA M) (H : Heap 𝓤) (A : Atoms 𝓤) (W : Given
 
         module _ {Γ : List (Item 𝓤)} {C : Calls 𝓤 H} {Λ : Loops 𝓤 H} {E : Env 𝓤 H} {xs : List Operand} {d : Place} {rest : Body} {p : Post 𝓤 H} (fm : FmC 𝓤 H (W .laws) C) (known : Triple 𝓤 (C #gather) (Gather 𝓤 H A at-mem run)) where
           pub lends : ((ν ν′ : ℕ) (δ δ′ : GName) → Opds (Go {0}) W (raw (Gather 𝓤 H A at-mem run .pre (to-gather (ν ∷ []) fullShare (tab δ) ν′ δ′)) ∷ ‵ (Owed l ws ν′ δ′) ∷ ‵ (Kept ν) ∷ Γ) E xs (table-of x ∷ vint w64 n ∷ slice-of l ws ∷ vint w64 128 ∷ []))
-              → ((ts : List ℕ) (m : ℕ) → Lent (length (x .now)) k m ts (x .now) → length ts ≡ 774 → m < 2 ^ 64 → Sq W (‵ OwnTab ∷ ‵ (flft κ q) ∷ ‵ (Lie l ts) ∷ Γ) (lands C Λ E d (vint w64 m) rest p))
+              → ((ts : List ℕ) (m : ℕ) → Lent (length (x .now)) k m ts (x .now) → length ts ≡ handWords → m < 2 ^ 64 → Sq W (‵ OwnTab ∷ ‵ (flft κ q) ∷ ‵ (Lie l ts) ∷ Γ) (lands C Λ E d (vint w64 m) rest p))
               → Sq W (‵ OwnTab ∷ ‵ (flft κ q) ∷ ‵ (Lie l ws) ∷ Γ) (runs C Λ E (seq (call #gather xs d) rest) p)
           lends os next =
               lft-new ! tt (λ ν. move ! (1 ∷ 2 ∷ []) $
@@ -250,7 +251,7 @@ module _ {M : Type 1} (𝓤 : URA M) (H : Heap 𝓤) (A : Atoms 𝓤) (W : Given
       abbrev Tab : Fml
       Tab = MutSlice ℓ κ T.the-row .own x (table-of x ∷ [])
 
-      module _ (l : ℕ) (ws : List ℕ) (lw : length ws ≡ 774) (fits : (m ≤ length (hand ws)) × Within (length (x .now)) (take m (hand ws))) where
+      module _ (l : ℕ) (ws : List ℕ) (lw : length ws ≡ handWords) (fits : (m ≤ length (hand ws)) × Within (length (x .now)) (take m (hand ws))) where
         abbrev pub to-scatter : ℕ → GName → Scatter 𝓤 H A at-mem run .Ghost
         to-scatter ν δ = (((κ, (ν ∷ [], tt)), (q, (fullShare, tt)), tt, (x, (lying l ws δ, (m, tt))), (table-of x ∷ [], (slice-of l ws ∷ [], (vint w64 m ∷ [], tt)))), tt)
 

@@ -2,6 +2,7 @@
 use answer::Answer;
 use receiver::Receiver;
 use receiver::Step;
+use window::Record;
 
 // The number of position 0, and the SSRC of the media.
 pub const BASE: u16 = 65530;
@@ -25,17 +26,23 @@ pub struct Side {
     pub timestamps: [u32; 16],
     pub marks: [u8; 16],
     pub parity: [u8; 1504],
-    pub words: [u32; 54],
+    pub words: [u32; 27],
     pub answer: Answer,
     pub receiver: Receiver,
 }
 
 // Rows that are free, each at its slot.
-fn free_rows() -> [u32; 54] {
-    let mut words = [0u32; 54];
+fn free_rows() -> [u32; 27] {
+    let mut words = [0u32; 27];
     let mut i = 0;
     while i < RECORDS {
-        words[i * table::ROW] = i as u32;
+        let v = Record {
+            stream: 0,
+            in_use: 0,
+            snbase: 0,
+            timestamp_recovery: 0,
+        };
+        table::put_row(&mut words, i, i as u32, 0, v);
         i += 1;
     }
     words
@@ -84,7 +91,7 @@ fn hand_in(
     t: &mut [u32; 16],
     k: &mut [u8; 16],
     p: &mut [u8; 1504],
-    h: &mut [u32; 54],
+    h: &mut [u32; 27],
 ) -> Step {
     if port == MEDIA {
         return w.media(g, m, t, k, p, h, RECORDS, RECORDS);

@@ -21,14 +21,14 @@ use Rattle.receiver.specs.Step.{Laid, tableOf, Stepped, Wrote}
 use Rattle.face.specs.declared.Reply.{Reply}
 use Rattle.face.specs.declared.Finished.{Finished}
 use Rattle.face.specs.Reply.{Replied, Filled, numbered, replied, filled}
-use Rattle.face.specs.Done.{reached, Lent, Done, Given}
+use Rattle.face.specs.Done.{reached, handWords, Lent, Done, Given}
 
 -- no rows leave the table as it is
 no-rows : (hs : List Row) (t : List Record) → scatter (take 0 hs) t ≡ t
 unfolding scatter
 no-rows hs t = refl
 
-module _ (len k m : ℕ) (words : List ℕ) (sized : length words ≡ 774) (t : List Record) (l : Lent len k m words t) where
+module _ (len k m : ℕ) (words : List ℕ) (sized : length words ≡ handWords) (t : List Record) (l : Lent len k m words t) where
   few : length (gathered (reached len k) t) ≤ mostRecords
   few = omega (arith, gathered-length (reached len k) t)
 
@@ -55,7 +55,7 @@ module _ (len k m : ℕ) (words : List ℕ) (sized : length words ≡ 774) (t : 
   within-is = subst (Within len) (sym rows-are) (λ i h. omega (arith, gathered-within (reached len k) t i h))
 
 -- an offer
-module _ (call : Store → Outcome) (len k m : ℕ) (media timestamps marks parity words : List ℕ) (sized : length words ≡ 774) (media′ timestamps′ marks′ parity′ words′ : List ℕ) (r : Step)
+module _ (call : Store → Outcome) (len k m : ℕ) (media timestamps marks parity words : List ℕ) (sized : length words ≡ handWords) (media′ timestamps′ marks′ parity′ words′ : List ℕ) (r : Step)
     (s : Stepped call k len m media timestamps marks parity words media′ timestamps′ marks′ parity′ words′ r) (long : length words′ ≡ length words) where
   pub done : (f : Finished) → f .reply ≡ numbered (r .answer) (r .receiver .window) → f .rows ≡ cond (r .changed) (r .rows) 0
       → Done (λ x. replied (call x)) len k m media timestamps marks parity words media′ timestamps′ marks′ parity′ words′ f
@@ -83,7 +83,7 @@ module _ (call : Store → Outcome) (len k m : ℕ) (media timestamps marks pari
           go false e = no-rows (hand words′) t ∙ sym (s .still t (laid len k m words sized t l) e ∙ table-is len k m words sized t l)
 
 -- reading out or writing parity
-pub given : (call : Store → List ℕ → Written) (len k m : ℕ) (media timestamps marks parity words out out′ : List ℕ) → length words ≡ 774 → (r : Step) → Wrote call k len m media timestamps marks parity words out out′ r
+pub given : (call : Store → List ℕ → Written) (len k m : ℕ) (media timestamps marks parity words out out′ : List ℕ) → length words ≡ handWords → (r : Step) → Wrote call k len m media timestamps marks parity words out out′ r
     → (reply : Reply) → reply ≡ numbered (r .answer) (r .receiver .window) → Given (λ x o. filled (call x o)) len k m media timestamps marks parity words out out′ reply
 given call len k m media timestamps marks parity words out out′ sized r s reply er = record {
   is = λ t l.

@@ -1,12 +1,12 @@
 -- What the work between gathering a hand of the table and putting it back says of every table that the hand was gathered of.
 use mathlib.Core.Path.{_≡_}
 use mathlib.Core.List.{List}
-use Prim.Native.Nat.{ℕ, min, _≤_}
+use Prim.Native.Nat.{ℕ, min, _+_, _*_, _≤_}
 use lib.ListN.{length, take}
 use Rattle.window.specs.declared.Record.{Record}
 use Rattle.window.specs.Limits.{mostRecords}
 use Rattle.window.specs.Store.{Store, stored}
-use Rattle.table.specs.View.{hand, scatter}
+use Rattle.table.specs.View.{rowWords, hand, scatter}
 use Rattle.table.specs.Apart.{Within}
 use Rattle.table.specs.Gather.{gathered, Gathered}
 use Rattle.face.specs.declared.Reply.{Reply}
@@ -16,6 +16,10 @@ use Rattle.face.specs.Reply.{Replied, Filled}
 -- how many records are looked through: K, and no more than there are, nor than a window may have
 abbrev pub reached : (len k : ℕ) → ℕ
 reached len k = min mostRecords (min len k)
+
+-- the words of as many rows as a window may have records, and one more
+abbrev pub handWords : ℕ
+handWords = (mostRecords + 1) * rowWords
 
 -- m rows of some words were gathered of a table of len records
 pub record Lent (len k m : ℕ) (words : List ℕ) (t : List Record) : Type 0 where

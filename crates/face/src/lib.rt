@@ -13,7 +13,7 @@ ghost use Rattle.window.specs.Store.{stored};
 ghost use Rattle.rtp.specs.Fec.{column, row};
 ghost use Rattle.calls.specs.Call.{asked, wiped, opened, offeredMedia, offeredParity, readOut, wroteParity};
 ghost use Rattle.face.specs.Reply.{numbered, replied, filled};
-ghost use Rattle.face.specs.Done.{reached, Done, Given};
+ghost use Rattle.face.specs.Done.{reached, handWords, Done, Given};
 
 // An answer by document 01's number and count, and the next window value.
 #[repr(C)]
@@ -46,10 +46,10 @@ pub fn reach(len: usize, k: usize) -> usize
 }
 
 // The words of as many rows as a window may have records, and one more, all zero.
-pub fn blanks() -> [u32; 774]
-    ensures { λ r. ⌜ length r ≡ 774 ⌝ }
+pub fn blanks() -> [u32; 387]
+    ensures { λ r. ⌜ length r ≡ handWords ⌝ }
 {
-    [0u32; 774]
+    [0u32; 387]
 }
 
 // The answer as number and count.
@@ -129,7 +129,7 @@ pub fn media(
     m: usize,
     len: usize,
 ) -> Finished
-    requires { ⌜ length (now words) ≡ 774 ⌝ }
+    requires { ⌜ length (now words) ≡ handWords ⌝ }
     ensures { λ r. ⌜ Done (λ s. replied (offeredMedia w (now (datagram .entry)) s)) len (w .k) m (now (media .entry)) (now (timestamps .entry)) (now (marks .entry)) (now (parity .entry)) (now (words .entry))
         (now (media .exit)) (now (timestamps .exit)) (now (marks .exit)) (now (parity .exit)) (now (words .exit)) r ⌝ }
 {
@@ -153,7 +153,7 @@ pub fn column(
     m: usize,
     len: usize,
 ) -> Finished
-    requires { ⌜ length (now words) ≡ 774 ⌝ }
+    requires { ⌜ length (now words) ≡ handWords ⌝ }
     ensures { λ r. ⌜ Done (λ s. replied (offeredParity column w (now (datagram .entry)) s)) len (w .k) m (now (media .entry)) (now (timestamps .entry)) (now (marks .entry)) (now (parity .entry)) (now (words .entry))
         (now (media .exit)) (now (timestamps .exit)) (now (marks .exit)) (now (parity .exit)) (now (words .exit)) r ⌝ }
 {
@@ -177,7 +177,7 @@ pub fn row(
     m: usize,
     len: usize,
 ) -> Finished
-    requires { ⌜ length (now words) ≡ 774 ⌝ }
+    requires { ⌜ length (now words) ≡ handWords ⌝ }
     ensures { λ r. ⌜ Done (λ s. replied (offeredParity row w (now (datagram .entry)) s)) len (w .k) m (now (media .entry)) (now (timestamps .entry)) (now (marks .entry)) (now (parity .entry)) (now (words .entry))
         (now (media .exit)) (now (timestamps .exit)) (now (marks .exit)) (now (parity .exit)) (now (words .exit)) r ⌝ }
 {
@@ -202,7 +202,7 @@ pub fn read(
     len: usize,
     out: &mut [u8],
 ) -> Reply
-    requires { ⌜ length (now words) ≡ 774 ⌝ }
+    requires { ⌜ length (now words) ≡ handWords ⌝ }
     ensures { λ r. ⌜ Given (λ s o. filled (readOut w number s o)) len (w .k) m (now (media .entry)) (now (timestamps .entry)) (now (marks .entry)) (now (parity .entry)) (now (words .entry)) (now (out .entry)) (now (out .exit)) r ⌝ }
 {
     let receiver = Receiver { window: w };
@@ -229,7 +229,7 @@ pub fn write_column(
     len: usize,
     out: &mut [u8],
 ) -> Reply
-    requires { ⌜ length (now words) ≡ 774 ⌝ }
+    requires { ⌜ length (now words) ≡ handWords ⌝ }
     ensures { λ r. ⌜ Given (λ s o. filled (wroteParity column w snbase (record { sequence = sequence; timestamp = timestamp; ssrc = ssrc }) s o)) len (w .k) m (now (media .entry)) (now (timestamps .entry)) (now (marks .entry)) (now (parity .entry)) (now (words .entry)) (now (out .entry)) (now (out .exit)) r ⌝ }
 {
     let receiver = Receiver { window: w };
@@ -269,7 +269,7 @@ pub fn write_row(
     len: usize,
     out: &mut [u8],
 ) -> Reply
-    requires { ⌜ length (now words) ≡ 774 ⌝ }
+    requires { ⌜ length (now words) ≡ handWords ⌝ }
     ensures { λ r. ⌜ Given (λ s o. filled (wroteParity row w snbase (record { sequence = sequence; timestamp = timestamp; ssrc = ssrc }) s o)) len (w .k) m (now (media .entry)) (now (timestamps .entry)) (now (marks .entry)) (now (parity .entry)) (now (words .entry)) (now (out .entry)) (now (out .exit)) r ⌝ }
 {
     let receiver = Receiver { window: w };

@@ -12,7 +12,7 @@ use Rattle.window.specs.declared.Window.{Window}
 use Rattle.window.specs.Limits.{mostRecords}
 use Rattle.window.specs.Store.{Store, stored}
 use Rattle.calls.specs.Call.{Outcome, Written}
-use Rattle.table.specs.View.{Row, hand, slotAt, slots, scatter}
+use Rattle.table.specs.View.{Row, rowWords, hand, slotAt, slots, scatter}
 use Rattle.table.specs.Apart.{Within, same-slot, same-length}
 use Rattle.table.specs.Hold.{gapFrom, holdIn, hold-within}
 use Rattle.order.specs.Stands.{Taken}
@@ -32,7 +32,7 @@ clash true e f = let q : _≡_ {A = ℕ} 0 1 = cc in omega arith
 clash false e f = let q : _≡_ {A = ℕ} 0 1 = cc in omega arith
 
 -- no room: the hand is none of a table
-module _ (k len m : ℕ) (words : List ℕ) (fits : Bool) (would : (m ≤ mostRecords) × ((m + 1) * 6 ≤ length words) → fits ≡ true) (not-so : fits ≡ false) where
+module _ (k len m : ℕ) (words : List ℕ) (fits : Bool) (would : (m ≤ mostRecords) × ((m + 1) * rowWords ≤ length words) → fits ≡ true) (not-so : fits ≡ false) where
   no-room : (t : List Record) → Laid k len m words t → ⊥
   no-room t l = clash fits (would (l .few, l .room)) not-so
 
@@ -43,33 +43,33 @@ module _ (k len m : ℕ) (words : List ℕ) (fits : Bool) (would : (m ≤ mostRe
   unread call media timestamps marks parity out r = record { is = λ t l. absurd (no-room t l) }
 
 -- ---- m rows of some words were lent
-module _ (k len m : ℕ) (words : List ℕ) (room : (m + 1) * 6 ≤ length words) where
-  taken-part : (t : List Record) → Laid k len m words t → Taken t k (hand (take (m * 6) words))
+module _ (k len m : ℕ) (words : List ℕ) (room : (m + 1) * rowWords ≤ length words) where
+  taken-part : (t : List Record) → Laid k len m words t → Taken t k (hand (take (m * rowWords) words))
   taken-part t l = subst (λ (hs : List Row). Taken t k hs) (sym (part-is words m room)) (l .taken)
 
-  table-part : (t : List Record) → scatter (hand (take (m * 6) words)) t ≡ tableOf m words t
+  table-part : (t : List Record) → scatter (hand (take (m * rowWords) words)) t ≡ tableOf m words t
   table-part t = ap (λ (hs : List Row). scatter hs t) (part-is words m room)
 
   pub read-part : (call : Store → List ℕ → Written) (media timestamps marks parity out out′ : List ℕ) (answer : Answer) (w : Window)
-      → ((t : List Record) → length t ≡ len → Taken t k (hand (take (m * 6) words)) → record { answer = answer; window = w; out = out′ } ≡ call (stored media timestamps marks parity (scatter (hand (take (m * 6) words)) t)) out)
+      → ((t : List Record) → length t ≡ len → Taken t k (hand (take (m * rowWords) words)) → record { answer = answer; window = w; out = out′ } ≡ call (stored media timestamps marks parity (scatter (hand (take (m * rowWords) words)) t)) out)
       → Wrote call k len m media timestamps marks parity words out out′ (stepOf answer w m false)
   read-part call media timestamps marks parity out out′ answer w h =
       record { is = λ t l. h t (l .sized) (taken-part t l) ∙ ap (λ (u : List Record). call (stored media timestamps marks parity u) out) (table-part t) }
 
   -- ---- an offer worked on them, and they are put back
-  module _ (call : Store → Outcome) (media timestamps marks parity : List ℕ) (r : Offered) (media′ timestamps′ marks′ parity′ us : List ℕ) (lu : length us ≡ m * 6)
-      (o : Offer call k len (record { media = media; timestamps = timestamps; marks = marks; parity = parity; rows = hand (take (m * 6) words) }) r (record { media = media′; timestamps = timestamps′; marks = marks′; parity = parity′; rows = hand us })) where
+  module _ (call : Store → Outcome) (media timestamps marks parity : List ℕ) (r : Offered) (media′ timestamps′ marks′ parity′ us : List ℕ) (lu : length us ≡ m * rowWords)
+      (o : Offer call k len (record { media = media; timestamps = timestamps; marks = marks; parity = parity; rows = hand (take (m * rowWords) words) }) r (record { media = media′; timestamps = timestamps′; marks = marks′; parity = parity′; rows = hand us })) where
     -- the words then
     abbrev back : List ℕ
-    back = us ++ drop (m * 6) words
+    back = us ++ drop (m * rowWords) words
 
     -- how the rows that are left lie in some words
     module _ (n : ℕ) (words′ : List ℕ) (rows : take n (hand words′) ≡ left r (hand us)) (few : n ≤ length (hand words′)) (changed : Bool) (same : changed ≡ false → r .changed ≡ false) where
       slots-within : Within len (take m (hand words)) → Within len (hand us)
       slots-within w i l =
           let e = o .same-slots in
-          rw (same-slot (hand (take (m * 6) words)) (hand us) e i, part-is words m room)
-          (w i (omega (arith, l, same-length (hand (take (m * 6) words)) (hand us) e, ap (λ (hs : List Row). length hs) (part-is words m room))))
+          rw (same-slot (hand (take (m * rowWords) words)) (hand us) e i, part-is words m room)
+          (w i (omega (arith, l, same-length (hand (take (m * rowWords) words)) (hand us) e, ap (λ (hs : List Row). length hs) (part-is words m room))))
 
       left-within : Within len (take m (hand words)) → Within len (left r (hand us))
       left-within w = go (r .held) refl

@@ -8,7 +8,7 @@ use Rattle.window.specs.declared.Record.{Record}
 use Rattle.window.specs.Limits.{mostRecords}
 use Rattle.window.specs.Store.{Store, stored}
 use Rattle.calls.specs.Call.{Outcome, Written}
-use Rattle.table.specs.View.{hand, scatter}
+use Rattle.table.specs.View.{rowWords, hand, scatter}
 use Rattle.table.specs.Apart.{Within}
 use Rattle.order.specs.Stands.{Taken}
 use Rattle.receiver.specs.declared.Step.{Step}
@@ -17,7 +17,7 @@ use Rattle.receiver.specs.declared.Step.{Step}
 pub record Laid (k len m : ℕ) (words : List ℕ) (t : List Record) : Type 0 where
   pub sized : length t ≡ len
   pub few : m ≤ mostRecords
-  pub room : (m + 1) * 6 ≤ length words
+  pub room : (m + 1) * rowWords ≤ length words
   pub taken : Taken t k (take m (hand words))
 
 -- the table with the first m rows of some words scattered over it

@@ -15,6 +15,7 @@ ghost use Rattle.rtp.specs.Fec.{column, row};
 ghost use Rattle.window.specs.declared.Record.{Record};
 ghost use Rattle.window.specs.Limits.{mostRecords};
 ghost use Rattle.window.specs.Store.{stored};
+ghost use Rattle.table.specs.View.{rowWords};
 ghost use Rattle.calls.specs.Call.{asked, wiped, opened, offeredMedia, offeredParity, readOut, wroteParity};
 ghost use Rattle.receiver.specs.Step.{Stepped, Wrote};
 
@@ -52,7 +53,7 @@ fn handed(answer: Answer, window: Window, rows: usize, changed: bool) -> Step
 
 // A hand of m rows and room for one more lies in `len` words.
 fn has_room(len: usize, m: usize) -> bool
-    ensures { λ r. ⌜ (r ≡ true → (m ≤ mostRecords) × ((m + 1) * 6 ≤ len)) × ((m ≤ mostRecords) × ((m + 1) * 6 ≤ len) → r ≡ true) ⌝ }
+    ensures { λ r. ⌜ (r ≡ true → (m ≤ mostRecords) × ((m + 1) * rowWords ≤ len)) × ((m ≤ mostRecords) × ((m + 1) * rowWords ≤ len) → r ≡ true) ⌝ }
 {
     if window::MOST_RECORDS < m {
         return false;

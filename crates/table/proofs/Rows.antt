@@ -12,26 +12,22 @@ use borrow.Author.Tests.{not-false, eq-eqb, eqb-true, ne-eqb, lt-ltb, le-ltb, lt
 use Rattle.window.specs.declared.Record.{Record}
 use Rattle.window.specs.Record.{blank}
 use Rattle.table.specs.View.{Row, nobody, hand, slotAt, missingAt, put, putMissing, itAt, scatter}
-use Rattle.table.specs.Laws.{set-slot, set-missing, length-same}
 use Rattle.table.specs.Apart.{Within}
 use Rattle.table.specs.Gather.{more, gathered, Gathered, wiped}
 
--- two words written leave as many words
-pub two-long : (ws : List ℕ) (i s n : ℕ) → length (set (set ws (i * 6) s) (i * 6 + 1) n) ≡ length ws
-two-long ws i s n = length-set (set ws (i * 6) s) (i * 6 + 1) n ∙ length-set ws (i * 6) s
+-- a head and a record written into one row are a row
+one-row : (hs : List Row) (i s n : ℕ) (w v : Record) → put (set hs i (record { slot = s; missing = n; it = w })) i v ≡ set hs i (record { slot = s; missing = n; it = v })
+one-row [] i s n w v = refl
+one-row (h ∷ hs) zero s n w v = refl
+one-row (h ∷ hs) (suc i) s n w v = ap (λ (gs : List Row). h ∷ gs) (one-row hs i s n w v)
 
--- a slot, a missing count and a record written into one row are a row
-one-row : (hs : List Row) (i s m n : ℕ) (w v : Record) → put (putMissing (set hs i (record { slot = s; missing = m; it = w })) i n) i v ≡ set hs i (record { slot = s; missing = n; it = v })
-one-row [] i s m n w v = refl
-one-row (h ∷ hs) zero s m n w v = refl
-one-row (h ∷ hs) (suc i) s m n w v = ap (λ (gs : List Row). h ∷ gs) (one-row hs i s m n w v)
+-- a head is written, and then a record
+pub head-and-record : (hs hs₁ hs₂ : List Row) (i s n : ℕ) (w v : Record) → hs₁ ≡ set hs i (record { slot = s; missing = n; it = w }) → hs₂ ≡ put hs₁ i v → hs₂ ≡ set hs i (record { slot = s; missing = n; it = v })
+head-and-record hs hs₁ hs₂ i s n w v e f = f ∙ ap (λ (gs : List Row). put gs i v) e ∙ one-row hs i s n w v
 
--- a slot, a missing count and then a record are written
-pub three : (ws : List ℕ) (i s n : ℕ) (v : Record) (zs : List ℕ) → i < length (hand ws) → hand zs ≡ put (hand (set (set ws (i * 6) s) (i * 6 + 1) n)) i v → hand zs ≡ set (hand ws) i (record { slot = s; missing = n; it = v })
-three ws i s n v zs l p =
-    let l₁ : i < length (hand (set ws (i * 6) s)) = omega (arith, length-same (set ws (i * 6) s) ws (length-set ws (i * 6) s)) in
-    p ∙ ap (λ (hs : List Row). put hs i v) (set-missing (set ws (i * 6) s) i n l₁ ∙ ap (λ (hs : List Row). putMissing hs i n) (set-slot ws i s l))
-    ∙ one-row (hand ws) i s (missingAt (hand ws) i) n (itAt (hand ws) i) v
+-- a head that keeps the slot sets the missing count
+pub kept-slot : (hs hs′ : List Row) (i s n m : ℕ) → hs′ ≡ set hs i (record { slot = s; missing = n; it = itAt hs i }) → s ≡ slotAt hs i → n ≡ m → hs′ ≡ putMissing hs i m
+kept-slot hs hs′ i s n m p e f = p ∙ rw (e, f)
 
 -- a row is written at a slot by its word
 pub at-slot : (hs hs′ : List Row) (i w s : ℕ) (v : Record) → hs′ ≡ set hs i (record { slot = w; missing = 0; it = v }) → w ≡ s → hs′ ≡ set hs i (record { slot = s; missing = 0; it = v })

@@ -1,6 +1,6 @@
 -- The hand: the records in use, each with its slot in the table and how many of its group are missing, as some words hold them.
 use mathlib.Core.List.{List, [], _∷_}
-use Prim.Native.Nat.{ℕ, _+_, _%_}
+use Prim.Native.Nat.{ℕ, _+_, _*_, _/_, _%_}
 use lib.ListN.{getD, set}
 use Rattle.window.specs.declared.Record.{Record}
 use Rattle.window.specs.Record.{blank}
@@ -15,31 +15,40 @@ pub record Row : Type 0 where
 abbrev pub nobody : Row
 nobody = record { slot = 0; missing = 0; it = blank }
 
--- the record of four words, each modulo the width of its field
-abbrev pub recordOf : (a b c d : ℕ) → Record
-recordOf a b c d = record { stream = a % 256; «in_use» = b % 256; snbase = c % 65536; «timestamp_recovery» = d }
+-- how many words a row has
+abbrev pub rowWords : ℕ
+rowWords = 3
 
--- the hand of some words, six to a row: the slot, the missing count, and the four words of the record
+-- the first word of a row: its slot, and its missing count in the lower 16 bits
+abbrev pub headOf : (slot missing : ℕ) → ℕ
+headOf slot missing = slot * 65536 + missing
+
+-- the second word of a row: the stream in the lowest 8 bits, then the mark, then SNBase
+abbrev pub groupOf : Record → ℕ
+groupOf v = v .stream + v .«in_use» * 256 + v .snbase * 65536
+
+-- the record of two words, each field modulo its width
+abbrev pub recordOf : (a d : ℕ) → Record
+recordOf a d = record { stream = a % 256; «in_use» = a / 256 % 256; snbase = a / 65536 % 65536; «timestamp_recovery» = d }
+
+-- the hand of some words, three to a row: the slot and the missing count, the stream, the mark and SNBase, and the timestamp recovery
 unfoldable pub hand : List ℕ → List Row
 hand [] = []
-hand (s ∷ []) = []
-hand (s ∷ n ∷ []) = []
-hand (s ∷ n ∷ a ∷ []) = []
-hand (s ∷ n ∷ a ∷ b ∷ []) = []
-hand (s ∷ n ∷ a ∷ b ∷ c ∷ []) = []
-hand (s ∷ n ∷ a ∷ b ∷ c ∷ d ∷ ws) = record { slot = s; missing = n; it = recordOf a b c d } ∷ hand ws
+hand (h ∷ []) = []
+hand (h ∷ a ∷ []) = []
+hand (h ∷ a ∷ d ∷ ws) = record { slot = h / 65536; missing = h % 65536; it = recordOf a d } ∷ hand ws
 
--- the record of the four words from i on
+-- the record of the two words from i on
 abbrev pub wordsAt : List ℕ → ℕ → Record
-wordsAt ws i = recordOf (getD ws i 0) (getD ws (i + 1) 0) (getD ws (i + 2) 0) (getD ws (i + 3) 0)
+wordsAt ws i = recordOf (getD ws i 0) (getD ws (i + 1) 0)
 
--- some words with the four from i on set to those of a record
+-- some words with the two from i on set to those of a record
 abbrev pub putWords : List ℕ → ℕ → Record → List ℕ
-putWords ws i v = set (set (set (set ws i (v .stream)) (i + 1) (v .«in_use»)) (i + 2) (v .snbase)) (i + 3) (v .«timestamp_recovery»)
+putWords ws i v = set (set ws i (groupOf v)) (i + 1) (v .«timestamp_recovery»)
 
 -- a record as its words give it back: itself, where each field has its width
 abbrev pub fit : Record → Record
-fit v = recordOf (v .stream) (v .«in_use») (v .snbase) (v .«timestamp_recovery»)
+fit v = recordOf (groupOf v) (v .«timestamp_recovery»)
 
 -- the slot of row i
 abbrev pub slotAt : List Row → ℕ → ℕ

@@ -1,9 +1,9 @@
-// The records in use, each with its slot and how many of its group are missing: one slice of words, six to a row, seen through one view, `hand`.
+// The records in use, each with its slot and how many of its group are missing: one slice of words, three to a row, seen through one view, `hand`.
 use window::Record;
 ghost use mathlib.Core.Path.{_≡_};
 ghost use mathlib.Core.Bool.{true, false, cond};
 ghost use mathlib.Core.List.{List, []};
-ghost use Prim.Native.Nat.{_+_, _-_, _<_, _≤_};
+ghost use Prim.Native.Nat.{_+_, _-_, _/_, _%_, _<_, _≤_};
 ghost use lib.ListN.{length, set, take};
 ghost use Rattle.window.specs.declared.Record.{Record};
 ghost use Rattle.table.specs.View.{Row, hand, wordsAt, putWords, fit, slotAt, missingAt, itAt, put, putMissing, scatter};
@@ -11,8 +11,8 @@ ghost use Rattle.table.specs.Apart.{Within};
 ghost use Rattle.table.specs.Hold.{FirstFree, Shifted, holdIn};
 ghost use Rattle.table.specs.Gather.{more, gathered, Gathered, wiped};
 
-// How many words a row has: its slot, its missing count, and the four of its record.
-pub const ROW: usize = 6;
+// How many words a row has: one for its slot and its missing count, two for its record.
+pub const ROW: usize = 3;
 
 // A word as a size.
 fn wide32(x: u32) -> usize
@@ -24,7 +24,7 @@ fn wide32(x: u32) -> usize
 // A small size as a word.
 fn narrow32(x: usize) -> u32
     requires { ⌜ x < 65536 ⌝ }
-    ensures { λ r. ⌜ r ≡ x ⌝ }
+    ensures { λ r. ⌜ (r ≡ x) × (r < 65536) ⌝ }
 {
     x as u32
 }
@@ -43,47 +43,68 @@ fn wide16(x: u16) -> u32
     x as u32
 }
 
-// The record of the four words from i on. A word that is too large for its field counts modulo the field's width, so nothing is asked of the words.
+// The upper 16 bits of a word.
+fn upper(x: u32) -> u32
+    ensures { λ r. ⌜ (r ≡ x / 65536) × (r < 65536) ⌝ }
+{
+    x / 65536
+}
+
+// The lower 16 bits of a word.
+fn lower(x: u32) -> u32
+    ensures { λ r. ⌜ (r ≡ x % 65536) × (r < 65536) ⌝ }
+{
+    x % 65536
+}
+
+// The record of the two words from i on, each field modulo its width.
 fn words_at(rows: &[u32], i: usize) -> Record
-    requires { ⌜ i + 4 ≤ length (now rows) ⌝ }
+    requires { ⌜ i + 2 ≤ length (now rows) ⌝ }
     ensures { λ v. ⌜ v ≡ wordsAt (now (rows .entry)) i ⌝ }
 {
+    let group = rows[i];
     Record {
-        stream: (rows[i] % 256) as u8,
-        in_use: (rows[i + 1] % 256) as u8,
-        snbase: (rows[i + 2] % 65536) as u16,
-        timestamp_recovery: rows[i + 3],
+        stream: (group % 256) as u8,
+        in_use: (group / 256 % 256) as u8,
+        snbase: (group / 65536 % 65536) as u16,
+        timestamp_recovery: rows[i + 1],
     }
 }
 
-// The four words from i on are set to those of a record.
+// The two words from i on are set to those of a record.
 fn put_words(rows: &mut [u32], i: usize, v: Record)
-    requires { ⌜ i + 4 ≤ length (now rows) ⌝ }
+    requires { ⌜ i + 2 ≤ length (now rows) ⌝ }
     ensures { λ _. ⌜ (now (rows .exit) ≡ putWords (now (rows .entry)) i v) × (fit v ≡ v) ⌝ }
 {
     let stream = wide8(v.stream);
     let in_use = wide8(v.in_use);
     let snbase = wide16(v.snbase);
-    rows[i] = stream;
-    rows[i + 1] = in_use;
-    rows[i + 2] = snbase;
-    rows[i + 3] = v.timestamp_recovery;
+    rows[i] = stream + in_use * 256 + snbase * 65536;
+    rows[i + 1] = v.timestamp_recovery;
+}
+
+// The first word of row i.
+fn head(rows: &[u32], i: usize) -> u32
+    requires { ⌜ i < length (hand (now rows)) ⌝ }
+    ensures { λ h. ⌜ (h / 65536 ≡ slotAt (hand (now (rows .entry))) i) × (h % 65536 ≡ missingAt (hand (now (rows .entry))) i) ⌝ }
+{
+    rows[i * ROW]
 }
 
 // The slot of row i as a word.
 fn slot_word(rows: &[u32], i: usize) -> u32
     requires { ⌜ i < length (hand (now rows)) ⌝ }
-    ensures { λ s. ⌜ s ≡ slotAt (hand (now (rows .entry))) i ⌝ }
+    ensures { λ s. ⌜ (s ≡ slotAt (hand (now (rows .entry))) i) × (s < 65536) ⌝ }
 {
-    rows[i * ROW]
+    upper(head(rows, i))
 }
 
 // The missing count of row i as a word.
 fn missing_word(rows: &[u32], i: usize) -> u32
     requires { ⌜ i < length (hand (now rows)) ⌝ }
-    ensures { λ n. ⌜ n ≡ missingAt (hand (now (rows .entry))) i ⌝ }
+    ensures { λ n. ⌜ (n ≡ missingAt (hand (now (rows .entry))) i) × (n < 65536) ⌝ }
 {
-    rows[i * ROW + 1]
+    lower(head(rows, i))
 }
 
 // The slot of row i.
@@ -107,7 +128,15 @@ pub fn record_at(rows: &[u32], i: usize) -> Record
     requires { ⌜ i < length (hand (now rows)) ⌝ }
     ensures { λ v. ⌜ v ≡ itAt (hand (now (rows .entry))) i ⌝ }
 {
-    words_at(rows, i * ROW + 2)
+    words_at(rows, i * ROW + 1)
+}
+
+// The slot and the missing count of row i are set.
+fn put_head(rows: &mut [u32], i: usize, s: u32, n: u32)
+    requires { ⌜ (i < length (hand (now rows))) × (s < 65536) × (n < 65536) ⌝ }
+    ensures { λ _. ⌜ hand (now (rows .exit)) ≡ set (hand (now (rows .entry))) i (record { slot = s; missing = n; it = itAt (hand (now (rows .entry))) i }) ⌝ }
+{
+    rows[i * ROW] = s * 65536 + n;
 }
 
 // The missing count of row i is set.
@@ -115,12 +144,13 @@ pub fn put_missing(rows: &mut [u32], i: usize, missing: usize)
     requires { ⌜ (i < length (hand (now rows))) × (missing < 65536) ⌝ }
     ensures { λ _. ⌜ hand (now (rows .exit)) ≡ putMissing (hand (now (rows .entry))) i missing ⌝ }
 {
-    rows[i * ROW + 1] = narrow32(missing);
+    let s = slot_word(rows, i);
+    put_head(rows, i, s, narrow32(missing));
 }
 
 // One less, but not below 0.
 fn less(n: u32) -> u32
-    ensures { λ r. ⌜ r ≡ n - 1 ⌝ }
+    ensures { λ r. ⌜ (r ≡ n - 1) × (r ≤ n) ⌝ }
 {
     if n == 0 { 0 } else { n - 1 }
 }
@@ -130,8 +160,9 @@ pub fn lower_missing(rows: &mut [u32], i: usize)
     requires { ⌜ i < length (hand (now rows)) ⌝ }
     ensures { λ _. ⌜ hand (now (rows .exit)) ≡ putMissing (hand (now (rows .entry))) i (missingAt (hand (now (rows .entry))) i - 1) ⌝ }
 {
-    let n = less(missing_word(rows, i));
-    rows[i * ROW + 1] = n;
+    let s = slot_word(rows, i);
+    let n = missing_word(rows, i);
+    put_head(rows, i, s, less(n));
 }
 
 // The record of row i is set to v.
@@ -139,16 +170,15 @@ pub fn put_record(rows: &mut [u32], i: usize, v: Record)
     requires { ⌜ i < length (hand (now rows)) ⌝ }
     ensures { λ _. ⌜ hand (now (rows .exit)) ≡ put (hand (now (rows .entry))) i v ⌝ }
 {
-    put_words(rows, i * ROW + 2, v);
+    put_words(rows, i * ROW + 1, v);
 }
 
 // Row i is set to v at slot s with n missing.
-fn put_row(rows: &mut [u32], i: usize, s: u32, n: u32, v: Record)
-    requires { ⌜ i < length (hand (now rows)) ⌝ }
+pub fn put_row(rows: &mut [u32], i: usize, s: u32, n: u32, v: Record)
+    requires { ⌜ (i < length (hand (now rows))) × (s < 65536) × (n < 65536) ⌝ }
     ensures { λ _. ⌜ hand (now (rows .exit)) ≡ set (hand (now (rows .entry))) i (record { slot = s; missing = n; it = v }) ⌝ }
 {
-    rows[i * ROW] = s;
-    rows[i * ROW + 1] = n;
+    put_head(rows, i, s, n);
     put_record(rows, i, v);
 }
 

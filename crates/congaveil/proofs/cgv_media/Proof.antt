@@ -44,7 +44,7 @@ use Rattle.face.specs.Reply.{replied}
 use Rattle.window.specs.declared.Record.{Record}
 use Rattle.window.specs.Store.{Store, stored}
 use Rattle.window.proofs.Record as T
-use Rattle.face.specs.Done.{Done}
+use Rattle.face.specs.Done.{handWords, Done}
 use Rattle.face.specs.declared.Finished.{Finished}
 use Rattle.face.proofs.Finished as Finished
 use Rattle.face.proofs.Finished.Laws as Finished′
@@ -118,7 +118,7 @@ module _ {M : Type 1} (𝓤 : URA M) (H : Heap 𝓤) (A : Atoms 𝓤) (W : Given
   abbrev to-work : (l : ℕ) (ws : List ℕ) (m ν : ℕ) (δ : GName) → Work 𝓤 H A at-mem run .Ghost
   to-work l ws m ν δ = (((κ₀, (κ₁, (κ₂, (κ₃, (κ₄, (ν ∷ [], tt)))))), (q₀, (q₁, (q₂, (q₃, (q₄, (fullShare, tt)))))), tt, (x₁, (x₂, (x₃, (x₄, (x₅, (x₆, (lying l ws δ, (m, ((length (x₇ .now)), tt))))))))), (v₁ ∷ [], (v₂ ∷ [], (v₃ ∷ [], (v₄ ∷ [], (v₅ ∷ [], (v₆ ∷ [], (slice-of l ws ∷ [], (vint w64 m ∷ [], (vint w64 (length (x₇ .now)) ∷ [], tt)))))))))), tt)
 
-  goes-work : (l : ℕ) (ws : List ℕ) (m ν : ℕ) (δ : GName) → length ws ≡ 774 → ent 𝓤 (onEntry 𝓤 H A work-f.signature (κ₀, (κ₁, (κ₂, (κ₃, (κ₄, (ν ∷ [], tt)))))) (q₀, (q₁, (q₂, (q₃, (q₄, (fullShare, tt)))))) (x₁, (x₂, (x₃, (x₄, (x₅, (x₆, (lying l ws δ, (m, ((length (x₇ .now)), tt))))))))) (v₁ ∷ [], (v₂ ∷ [], (v₃ ∷ [], (v₄ ∷ [], (v₅ ∷ [], (v₆ ∷ [], (slice-of l ws ∷ [], (vint w64 m ∷ [], (vint w64 (length (x₇ .now)) ∷ [], tt)))))))))) (Work 𝓤 H A at-mem run .pre (to-work l ws m ν δ))
+  goes-work : (l : ℕ) (ws : List ℕ) (m ν : ℕ) (δ : GName) → length ws ≡ handWords → ent 𝓤 (onEntry 𝓤 H A work-f.signature (κ₀, (κ₁, (κ₂, (κ₃, (κ₄, (ν ∷ [], tt)))))) (q₀, (q₁, (q₂, (q₃, (q₄, (fullShare, tt)))))) (x₁, (x₂, (x₃, (x₄, (x₅, (x₆, (lying l ws δ, (m, ((length (x₇ .now)), tt))))))))) (v₁ ∷ [], (v₂ ∷ [], (v₃ ∷ [], (v₄ ∷ [], (v₅ ∷ [], (v₆ ∷ [], (slice-of l ws ∷ [], (vint w64 m ∷ [], (vint w64 (length (x₇ .now)) ∷ [], tt)))))))))) (Work 𝓤 H A at-mem run .pre (to-work l ws m ν δ))
   goes-work l ws m ν δ lw = qed W ((‵ (flft κ₀ q₀) ⊛ (‵ (flft κ₁ q₁) ⊛ (‵ (flft κ₂ q₂) ⊛ (‵ (flft κ₃ q₃) ⊛ (‵ (flft κ₄ q₄) ⊛ (‵ (flft (ν ∷ []) fullShare) ⊛ (‵ ftrue))))))) ∷ ‵ (owns (Window.the-row ∷ ShrSlice (named 0) κ₀ u8 ∷ MutSlice (named 1) κ₁ u8 ∷ MutSlice (named 2) κ₂ u32 ∷ MutSlice (named 3) κ₃ u8 ∷ MutSlice (named 4) κ₄ u8 ∷ MutSlice (named 5) (ν ∷ []) u32 ∷ usize ∷ usize ∷ []) (x₁, (x₂, (x₃, (x₄, (x₅, (x₆, (lying l ws δ, (m, ((length (x₇ .now)), tt))))))))) (v₁ ∷ [], (v₂ ∷ [], (v₃ ∷ [], (v₄ ∷ [], (v₅ ∷ [], (v₆ ∷ [], (slice-of l ws ∷ [], (vint w64 m ∷ [], (vint w64 (length (x₇ .now)) ∷ [], tt)))))))))) ∷ []) ∵ says ! lw $ frame ! $ done !
 
   exits : (r : Reply) (w : Val) → Is Reply.the-row r (w ∷ []) → (z₃ : List ℕ) (z₄ : List ℕ) (z₅ : List ℕ) (z₆ : List ℕ) (z₇ : List Record) → (c₃ : length z₃ ≡ length (x₃ .now)) (c₄ : length z₄ ≡ length (x₄ .now)) (c₅ : length z₅ ≡ length (x₅ .now)) (c₆ : length z₆ ≡ length (x₆ .now)) (c₇ : length z₇ ≡ length (x₇ .now)) → record { reply = r; store = (stored z₃ z₄ z₅ z₆ z₇) } ≡ replied (offeredMedia x₁ (x₂ .now) (stored (x₃ .now) (x₄ .now) (x₅ .now) (x₆ .now) (x₇ .now))) → ent 𝓤 (⋆ 𝓤 H A (‵ (flft κ₀ q₀) ∷ ‵ (flft κ₁ q₁) ∷ ‵ (flft κ₂ q₂) ∷ ‵ (flft κ₃ q₃) ∷ ‵ (flft κ₄ q₄) ∷ ‵ (flft κ₅ q₅) ∷ ‵ (finally u8 (x₃ .name) z₃) ∷ ‵ (finally u32 (x₄ .name) z₄) ∷ ‵ (finally u8 (x₅ .name) z₅) ∷ ‵ (finally u8 (x₆ .name) z₆) ∷ ‵ (finally T.the-row (x₇ .name) z₇) ∷ ‵ (ShrSlice (named 0) κ₀ u8 .own x₂ (v₂ ∷ [])) ∷ [])) (Post w)

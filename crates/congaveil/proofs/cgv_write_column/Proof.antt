@@ -45,7 +45,7 @@ use Rattle.face.specs.Reply.{filled}
 use Rattle.window.specs.declared.Record.{Record}
 use Rattle.window.specs.Store.{Store, stored}
 use Rattle.window.proofs.Record as T
-use Rattle.face.specs.Done.{Given as Gives}
+use Rattle.face.specs.Done.{handWords, Given as Gives}
 use Rattle.face.specs.declared.Reply.{Reply}
 use Rattle.face.proofs.Reply as Reply
 use Rattle.face.proofs.Reply.Laws as Reply′
@@ -125,7 +125,7 @@ module _ {M : Type 1} (𝓤 : URA M) (H : Heap 𝓤) (A : Atoms 𝓤) (W : Given
   abbrev to-work : (l : ℕ) (ws : List ℕ) (m ν : ℕ) (δ : GName) → Work 𝓤 H A at-mem run .Ghost
   to-work l ws m ν δ = (((κ₀, (κ₁, (κ₂, (κ₃, (ν ∷ [], (κ₅, tt)))))), (q₀, (q₁, (q₂, (q₃, (fullShare, (q₅, tt)))))), tt, (x₁, (x₂, (x₃, (x₄, (x₅, (x₆, (x₇, (x₈, (x₉, (lying l ws δ, (m, ((length (x₁₀ .now)), (x₁₁, tt))))))))))))), (v₁ ∷ [], (v₂ ∷ [], (v₃ ∷ [], (v₄ ∷ [], (v₅ ∷ [], (v₆ ∷ [], (v₇ ∷ [], (v₈ ∷ [], (v₉ ∷ [], (slice-of l ws ∷ [], (vint w64 m ∷ [], (vint w64 (length (x₁₀ .now)) ∷ [], (v₁₁ ∷ [], tt)))))))))))))), tt)
 
-  goes-work : (l : ℕ) (ws : List ℕ) (m ν : ℕ) (δ : GName) → length ws ≡ 774 → ent 𝓤 (onEntry 𝓤 H A work-f.signature (κ₀, (κ₁, (κ₂, (κ₃, (ν ∷ [], (κ₅, tt)))))) (q₀, (q₁, (q₂, (q₃, (fullShare, (q₅, tt)))))) (x₁, (x₂, (x₃, (x₄, (x₅, (x₆, (x₇, (x₈, (x₉, (lying l ws δ, (m, ((length (x₁₀ .now)), (x₁₁, tt))))))))))))) (v₁ ∷ [], (v₂ ∷ [], (v₃ ∷ [], (v₄ ∷ [], (v₅ ∷ [], (v₆ ∷ [], (v₇ ∷ [], (v₈ ∷ [], (v₉ ∷ [], (slice-of l ws ∷ [], (vint w64 m ∷ [], (vint w64 (length (x₁₀ .now)) ∷ [], (v₁₁ ∷ [], tt)))))))))))))) (Work 𝓤 H A at-mem run .pre (to-work l ws m ν δ))
+  goes-work : (l : ℕ) (ws : List ℕ) (m ν : ℕ) (δ : GName) → length ws ≡ handWords → ent 𝓤 (onEntry 𝓤 H A work-f.signature (κ₀, (κ₁, (κ₂, (κ₃, (ν ∷ [], (κ₅, tt)))))) (q₀, (q₁, (q₂, (q₃, (fullShare, (q₅, tt)))))) (x₁, (x₂, (x₃, (x₄, (x₅, (x₆, (x₇, (x₈, (x₉, (lying l ws δ, (m, ((length (x₁₀ .now)), (x₁₁, tt))))))))))))) (v₁ ∷ [], (v₂ ∷ [], (v₃ ∷ [], (v₄ ∷ [], (v₅ ∷ [], (v₆ ∷ [], (v₇ ∷ [], (v₈ ∷ [], (v₉ ∷ [], (slice-of l ws ∷ [], (vint w64 m ∷ [], (vint w64 (length (x₁₀ .now)) ∷ [], (v₁₁ ∷ [], tt)))))))))))))) (Work 𝓤 H A at-mem run .pre (to-work l ws m ν δ))
   goes-work l ws m ν δ lw = qed W ((‵ (flft κ₀ q₀) ⊛ (‵ (flft κ₁ q₁) ⊛ (‵ (flft κ₂ q₂) ⊛ (‵ (flft κ₃ q₃) ⊛ (‵ (flft (ν ∷ []) fullShare) ⊛ (‵ (flft κ₅ q₅) ⊛ (‵ ftrue))))))) ∷ ‵ (owns (Window.the-row ∷ u16 ∷ u16 ∷ u32 ∷ u32 ∷ ShrSlice (named 0) κ₀ u8 ∷ ShrSlice (named 1) κ₁ u32 ∷ ShrSlice (named 2) κ₂ u8 ∷ ShrSlice (named 3) κ₃ u8 ∷ MutSlice (named 4) (ν ∷ []) u32 ∷ usize ∷ usize ∷ MutSlice (named 5) κ₅ u8 ∷ []) (x₁, (x₂, (x₃, (x₄, (x₅, (x₆, (x₇, (x₈, (x₉, (lying l ws δ, (m, ((length (x₁₀ .now)), (x₁₁, tt))))))))))))) (v₁ ∷ [], (v₂ ∷ [], (v₃ ∷ [], (v₄ ∷ [], (v₅ ∷ [], (v₆ ∷ [], (v₇ ∷ [], (v₈ ∷ [], (v₉ ∷ [], (slice-of l ws ∷ [], (vint w64 m ∷ [], (vint w64 (length (x₁₀ .now)) ∷ [], (v₁₁ ∷ [], tt)))))))))))))) ∷ []) ∵ says ! lw $ frame ! $ done !
 
   exits : (r : Reply) (w : Val) → Is Reply.the-row r (w ∷ []) → (z₁₁ : List ℕ) → (c₁₁ : length z₁₁ ≡ length (x₁₁ .now)) → record { reply = r; out = z₁₁ } ≡ filled (wroteParity column x₁ x₂ (record { sequence = x₃; timestamp = x₄; ssrc = x₅ }) (stored (x₆ .now) (x₇ .now) (x₈ .now) (x₉ .now) (x₁₀ .now)) (x₁₁ .now)) → ent 𝓤 (⋆ 𝓤 H A (‵ (flft κ₀ q₀) ∷ ‵ (flft κ₁ q₁) ∷ ‵ (flft κ₂ q₂) ∷ ‵ (flft κ₃ q₃) ∷ ‵ (flft κ₄ q₄) ∷ ‵ (flft κ₅ q₅) ∷ ‵ (finally u8 (x₁₁ .name) z₁₁) ∷ ‵ (ShrSlice (named 0) κ₀ u8 .own x₆ (v₆ ∷ [])) ∷ ‵ (ShrSlice (named 1) κ₁ u32 .own x₇ (v₇ ∷ [])) ∷ ‵ (ShrSlice (named 2) κ₂ u8 .own x₈ (v₈ ∷ [])) ∷ ‵ (ShrSlice (named 3) κ₃ u8 .own x₉ (v₉ ∷ [])) ∷ ‵ (ShrSlice (named 4) κ₄ T.the-row .own x₁₀ (v₁₀ ∷ [])) ∷ [])) (Post w)

@@ -42,7 +42,7 @@ same-length-2 c = search needs
 returns-2 : tie.Need-returns-2
 returns-2 c = let a = c .before .before .before .before .before .before .before .before .before .before .before .before .before .before .before .args in
     let r : ℕ = c .before .before .before .before .before .before .before .before .before .before .before .before .first-free .result in
-    (in-new-row (a .m) (hand (a .rows .now)) (c .before .before .before .before .before .before .before .before .before .before .before .before .before .before .before .pre .0) r (c .before .before .before .before .before .before .before .before .before .before .before .before .first-free .ensures) (a .v) _ _ (c .before .before .before .narrow32 .result) (c .before .before .before .narrow32 .ensures) (c .before .before .before .before .before .before .before .before .before .before .has-row .ensures .1 (c .before .before .before .before .before .before .before .before .before .if1 .left)) (c .before .before .before .before .before .before .before .shift .ensures) (c .before .before .put-row .ensures), omega arith)
+    (in-new-row (a .m) (hand (a .rows .now)) (c .before .before .before .before .before .before .before .before .before .before .before .before .before .before .before .pre .0) r (c .before .before .before .before .before .before .before .before .before .before .before .before .first-free .ensures) (a .v) _ _ (c .before .before .before .narrow32 .result) (c .before .before .before .narrow32 .ensures .0) (c .before .before .before .before .before .before .before .before .before .before .has-row .ensures .1 (c .before .before .before .before .before .before .before .before .before .if1 .left)) (c .before .before .before .before .before .before .before .shift .ensures) (c .before .before .put-row .ensures), omega arith)
 
 pub hold-spec : {M : Type 1} → statement M
 hold-spec = tie.close (tie.spec first-free-requires has-row-requires put-record-requires same-length returns shift-requires narrow32-requires put-row-requires add-result same-length-2 returns-2)

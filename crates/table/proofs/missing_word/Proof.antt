@@ -1,23 +1,17 @@
 -- `table::missing_word` meets its contract. Assumes nothing.
-use native.Mathlib.Omega.{arith}
-use Rattle.table.specs.Laws.{get-missing, room}
+use mathlib.Core.Path.{_∙_}
+use borrow.Author.Needs.{needs}
 use Rattle.table.proofs.missing_word.Statement.{statement}
 use Rattle.table.proofs.missing_word.Tie as tie
 
-mul-result : tie.Need-mul-result
-mul-result c = let a = c .args in omega (arith, room (a .rows .now) (a .i) (c .pre))
+head-requires : tie.Need-head-requires
+head-requires c κs = search needs
 
-add-result : tie.Need-add-result
-add-result c = let a = c .args in omega (arith, room (a .rows .now) (a .i) (c .pre))
-
-mul-result-2 : tie.Need-mul-result-2
-mul-result-2 c = let a = c .args in omega (arith, room (a .rows .now) (a .i) (c .pre))
-
-shared-slice-read-result : tie.Need-shared-slice-read-result
-shared-slice-read-result c = let a = c .before .args in omega (arith, room (a .rows .now) (a .i) (c .before .pre))
+lower-requires : tie.Need-lower-requires
+lower-requires c κs = search needs
 
 returns : tie.Need-returns
-returns c = let a = c .before .args in get-missing (a .rows .now) (a .i) (c .before .pre)
+returns c = (c .lower .ensures .0 ∙ c .before .head .ensures .1, c .lower .ensures .1)
 
 pub missing-word-spec : {M : Type 1} → statement M
-missing-word-spec = tie.close (tie.spec mul-result add-result mul-result-2 shared-slice-read-result returns)
+missing-word-spec = tie.close (tie.spec head-requires lower-requires returns)

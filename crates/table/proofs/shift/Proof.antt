@@ -48,7 +48,7 @@ record-at-requires : tie.Need-record-at-requires Inv-loop μ-loop
 record-at-requires c κs = omega (arith, c .before .before .before .before .before .before .loop .inv .2 .long, c .before .before .before .before .before .before .before .before .pre .1)
 
 put-row-requires : tie.Need-put-row-requires Inv-loop μ-loop
-put-row-requires c κs = omega (arith, c .before .before .before .before .before .before .before .before .loop .inv .2 .long, c .before .before .before .before .before .before .before .before .before .before .pre .1)
+put-row-requires c κs = (omega (arith, c .before .before .before .before .before .before .before .before .loop .inv .2 .long, c .before .before .before .before .before .before .before .before .before .before .pre .1), c .before .before .before .before .before .slot-word .ensures .1, c .before .before .before .missing-word .ensures .1)
 
 sub-i : tie.Need-sub-i Inv-loop μ-loop
 sub-i c = omega arith
@@ -61,7 +61,7 @@ loop-again c = let a = c .before .before .before .before .before .before .before
     let l = c .before .before .before .before .before .before .before .before .before .before .before .loop in (
       omega arith,
       omega arith,
-      shift-more (a .m) (hand (a .rows .now)) (c .before .before .before .before .before .before .before .before .before .before .before .before .before .pre .1) (l .i) (hand (l .rows)) _ (omega arith) (l .inv .1) (l .inv .2) (c .before .before .put-row .ensures ∙ ap (set (hand (l .rows)) (l .i)) (same-row _ _ _ (getD (hand (l .rows)) (l .i - 1) nobody) (c .before .before .before .before .before .before .before .before .slot-word .ensures) (c .before .before .before .before .before .before .missing-word .ensures) (c .before .before .before .before .record-at .ensures))),
+      shift-more (a .m) (hand (a .rows .now)) (c .before .before .before .before .before .before .before .before .before .before .before .before .before .pre .1) (l .i) (hand (l .rows)) _ (omega arith) (l .inv .1) (l .inv .2) (c .before .before .put-row .ensures ∙ ap (set (hand (l .rows)) (l .i)) (same-row _ _ _ (getD (hand (l .rows)) (l .i - 1) nobody) (c .before .before .before .before .before .before .before .before .slot-word .ensures .0) (c .before .before .before .before .before .before .missing-word .ensures .0) (c .before .before .before .before .record-at .ensures))),
       omega arith,
     )
 

@@ -11,7 +11,7 @@ wide32-requires : tie.Need-wide32-requires
 wide32-requires c κs = search needs
 
 returns : tie.Need-returns
-returns c = c .wide32 .ensures ∙ c .before .slot-word .ensures
+returns c = c .wide32 .ensures ∙ c .before .slot-word .ensures .0
 
 pub slot-at-spec : {M : Type 1} → statement M
 slot-at-spec = tie.close (tie.spec slot-word-requires wide32-requires returns)

@@ -1,20 +1,17 @@
 -- `table::slot_word` meets its contract. Assumes nothing.
-use native.Mathlib.Omega.{arith}
-use Rattle.table.specs.Laws.{get-slot, room}
+use mathlib.Core.Path.{_∙_}
+use borrow.Author.Needs.{needs}
 use Rattle.table.proofs.slot_word.Statement.{statement}
 use Rattle.table.proofs.slot_word.Tie as tie
 
-mul-result : tie.Need-mul-result
-mul-result c = let a = c .args in omega (arith, room (a .rows .now) (a .i) (c .pre))
+head-requires : tie.Need-head-requires
+head-requires c κs = search needs
 
-mul-result-2 : tie.Need-mul-result-2
-mul-result-2 c = let a = c .args in omega (arith, room (a .rows .now) (a .i) (c .pre))
-
-shared-slice-read-result : tie.Need-shared-slice-read-result
-shared-slice-read-result c = let a = c .before .args in omega (arith, room (a .rows .now) (a .i) (c .before .pre))
+upper-requires : tie.Need-upper-requires
+upper-requires c κs = search needs
 
 returns : tie.Need-returns
-returns c = let a = c .before .args in get-slot (a .rows .now) (a .i) (c .before .pre)
+returns c = (c .upper .ensures .0 ∙ c .before .head .ensures .0, c .upper .ensures .1)
 
 pub slot-word-spec : {M : Type 1} → statement M
-slot-word-spec = tie.close (tie.spec mul-result mul-result-2 shared-slice-read-result returns)
+slot-word-spec = tie.close (tie.spec head-requires upper-requires returns)

@@ -29,7 +29,7 @@ same-length : tie.Need-same-length
 same-length c = search needs
 
 returns-3 : tie.Need-returns-3
-returns-3 c = let a = c .before .before .before .before .before .before .before .before .before .args in λ gs g. taken (a .most) (a .n) (a .r) (a .v) (hand (a .rows .now)) gs g _ (c .before .before .before .before .before .before .if1 .left) (c .before .before .before .before .before .if2 .left) (c .before .before .before .before .before .before .before .before .before .pre .0) (at-slot (hand (a .rows .now)) _ (a .n) _ (a .r) (a .v) (c .before .before .put-row .ensures) (c .before .before .before .narrow32 .ensures))
+returns-3 c = let a = c .before .before .before .before .before .before .before .before .before .args in λ gs g. taken (a .most) (a .n) (a .r) (a .v) (hand (a .rows .now)) gs g _ (c .before .before .before .before .before .before .if1 .left) (c .before .before .before .before .before .if2 .left) (c .before .before .before .before .before .before .before .before .before .pre .0) (at-slot (hand (a .rows .now)) _ (a .n) _ (a .r) (a .v) (c .before .before .put-row .ensures) (c .before .before .before .narrow32 .ensures .0))
 
 pub take-in-spec : {M : Type 1} → statement M
 take-in-spec = tie.close (tie.spec returns add-result returns-2 narrow32-requires put-row-requires add-result-2 same-length returns-3)

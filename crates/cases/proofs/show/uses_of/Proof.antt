@@ -1,6 +1,11 @@
 -- `cases::show::uses_of` stays in the rows, and ends: the counter rises to the last row. Assumes nothing.
-use Prim.Native.Nat.{_-_, _≤_}
+use mathlib.Core.Path.{_≡_}
+use Prim.Native.Nat.{_-_, _*_, _≤_}
+use native.Mathlib.Omega.{arith}
+use lib.ListN.{length}
 use borrow.Author.Needs.{needs}
+use Rattle.table.specs.View.{rowWords}
+use Rattle.table.specs.Laws.{length-hand}
 use Rattle.cases.proofs.show.uses_of.Statement.{statement}
 use Rattle.cases.proofs.show.uses_of.Tie as tie
 
@@ -13,17 +18,13 @@ abbrev μ-loop : tie.MeasureT-loop
 loop-holds : tie.Need-loop-holds Inv-loop μ-loop
 loop-holds c = search needs
 
-mul-in-use : tie.Need-mul-in-use Inv-loop μ-loop
-mul-in-use c = search needs
+slice-aggregate-record-at : tie.Need-slice-aggregate-record-at Inv-loop μ-loop
+slice-aggregate-record-at c = search needs
 
-add-in-use : tie.Need-add-in-use Inv-loop μ-loop
-add-in-use c = search needs
-
-mul-in-use-2 : tie.Need-mul-in-use-2 Inv-loop μ-loop
-mul-in-use-2 c = search needs
-
-element-copy-out-in-use : tie.Need-element-copy-out-in-use Inv-loop μ-loop
-element-copy-out-in-use c = search needs
+record-at-requires : tie.Need-record-at-requires Inv-loop μ-loop
+record-at-requires c κs =
+    let l : length (c .before .before .before .args .t1) ≡ 10 * rowWords = omega (arith, c .before .before .before .good) in
+    omega (arith, c .before .loop-test .taken, length-hand 10 (c .before .before .before .args .t1) l)
 
 in-use-requires : tie.Need-in-use-requires Inv-loop μ-loop
 in-use-requires c κs = search needs
@@ -41,18 +42,4 @@ returns : tie.Need-returns Inv-loop μ-loop
 returns c = search needs
 
 pub uses-of-spec : {M : Type 1} → statement M
-uses-of-spec =
-    tie.close
-    (tie.spec
-    Inv-loop
-    μ-loop
-    loop-holds
-    mul-in-use
-    add-in-use
-    mul-in-use-2
-    element-copy-out-in-use
-    in-use-requires
-    add-i
-    loop-less
-    loop-again
-    returns)
+uses-of-spec = tie.close (tie.spec Inv-loop μ-loop loop-holds slice-aggregate-record-at record-at-requires in-use-requires add-i loop-less loop-again returns)

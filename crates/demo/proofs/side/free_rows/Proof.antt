@@ -1,31 +1,31 @@
 -- `demo::side::free_rows` stays in its words, and ends: the counter rises to the last row. Assumes nothing.
 use mathlib.Core.Path.{_≡_}
-use Prim.Native.Nat.{_-_, _≤_}
+use Prim.Native.Nat.{_-_, _*_, _≤_}
+use native.Mathlib.Omega.{arith}
 use lib.ListN.{length}
 use borrow.Author.Needs.{needs}
+use Rattle.table.specs.View.{rowWords}
+use Rattle.table.specs.Laws.{length-hand}
 use Rattle.demo.proofs.side.free_rows.Statement.{statement}
 use Rattle.demo.proofs.side.free_rows.Tie as tie
 
 abbrev Inv-loop : tie.InvT-loop
-Inv-loop words₀ i₀ words i = (i ≤ 8) × (length words ≡ 54)
+Inv-loop words₀ i₀ words i = (i ≤ 8) × (length words ≡ 9 * rowWords)
 
 abbrev μ-loop : tie.MeasureT-loop
 μ-loop words₀ i₀ words i = 8 - i
 
 loop-holds : tie.Need-loop-holds Inv-loop μ-loop
-loop-holds c = search needs
+loop-holds c = (omega arith, omega arith)
 
-cast-words : tie.Need-cast-words Inv-loop μ-loop
-cast-words c = search needs
+slice-aggregate-put-row : tie.Need-slice-aggregate-put-row Inv-loop μ-loop
+slice-aggregate-put-row c = search needs
 
-mul-words : tie.Need-mul-words Inv-loop μ-loop
-mul-words c = search needs
+cast-put-row : tie.Need-cast-put-row Inv-loop μ-loop
+cast-put-row c = search needs
 
-mul-words-2 : tie.Need-mul-words-2 Inv-loop μ-loop
-mul-words-2 c = search needs
-
-array-write-words : tie.Need-array-write-words Inv-loop μ-loop
-array-write-words c = search needs
+put-row-requires : tie.Need-put-row-requires Inv-loop μ-loop
+put-row-requires c κs = (omega (arith, c .before .loop-test .taken, length-hand 9 (c .before .before .loop .words) (c .before .before .loop .inv .1)), omega (arith, c .before .loop-test .taken), omega arith)
 
 add-i : tie.Need-add-i Inv-loop μ-loop
 add-i c = search needs
@@ -34,23 +34,10 @@ loop-less : tie.Need-loop-less Inv-loop μ-loop
 loop-less c = search needs
 
 loop-again : tie.Need-loop-again Inv-loop μ-loop
-loop-again c = search needs
+loop-again c = (omega (arith, c .before .before .before .loop-test .taken), omega (arith, c .before .put-row .kept, c .before .before .before .before .loop .inv .1))
 
 returns : tie.Need-returns Inv-loop μ-loop
 returns c = search needs
 
 pub free-rows-spec : {M : Type 1} → statement M
-free-rows-spec =
-    tie.close
-    (tie.spec
-    Inv-loop
-    μ-loop
-    loop-holds
-    cast-words
-    mul-words
-    mul-words-2
-    array-write-words
-    add-i
-    loop-less
-    loop-again
-    returns)
+free-rows-spec = tie.close (tie.spec Inv-loop μ-loop loop-holds slice-aggregate-put-row cast-put-row put-row-requires add-i loop-less loop-again returns)
