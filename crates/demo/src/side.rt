@@ -2,7 +2,6 @@
 use answer::Answer;
 use receiver::Receiver;
 use receiver::Step;
-use window::Record;
 
 // The number of position 0, and the SSRC of the media.
 pub const BASE: u16 = 65530;
@@ -36,13 +35,7 @@ fn free_rows() -> [u32; 27] {
     let mut words = [0u32; 27];
     let mut i = 0;
     while i < RECORDS {
-        let v = Record {
-            stream: 0,
-            in_use: 0,
-            snbase: 0,
-            timestamp_recovery: 0,
-        };
-        table::put_row(&mut words, i, i as u32, 0, v);
+        table::put_row(&mut words, i, i as u32, 0, window::free_record());
         i += 1;
     }
     words

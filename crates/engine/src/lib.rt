@@ -1,6 +1,5 @@
 // Settling: parity in hand rebuilds until none of it has exactly one packet missing. How many packets each row waits for is
 // noted in the row, so a round looks at the rows alone: it lowers the counts of those whose group has the rebuilt packet.
-use window::Record;
 use window::Window;
 ghost use mathlib.Core.Path.{_≡_};
 ghost use mathlib.Core.Bool.{true, cond};
@@ -166,16 +165,7 @@ fn release_row(w: Window, i: usize, parity: &mut [u8], rows: &mut [u32]) -> Wind
     }
     let s = table::slot_at(rows, i);
     xor::zero_at(parity, s * w.p, w.p);
-    table::put_record(
-        rows,
-        i,
-        Record {
-            stream: 0,
-            in_use: 0,
-            snbase: 0,
-            timestamp_recovery: 0,
-        },
-    );
+    table::put_record(rows, i, window::free_record());
     recounted(w, w.present, one_less(w.in_use))
 }
 

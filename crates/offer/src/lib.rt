@@ -42,18 +42,6 @@ pub struct Offered {
     pub it: Record,
 }
 
-// A free record.
-fn free_record() -> Record
-    ensures { λ r. ⌜ r ≡ blank ⌝ }
-{
-    Record {
-        stream: 0,
-        in_use: 0,
-        snbase: 0,
-        timestamp_recovery: 0,
-    }
-}
-
 // A refusal.
 fn refused(w: Window, fault: u8) -> Offered
     ensures { λ r. ⌜ r ≡ record { answer = Refused fault; window = w; changed = false; held = false; it = blank } ⌝ }
@@ -63,7 +51,7 @@ fn refused(w: Window, fault: u8) -> Offered
         window: w,
         changed: false,
         held: false,
-        it: free_record(),
+        it: window::free_record(),
     }
 }
 
@@ -76,7 +64,7 @@ fn taken(window: Window, rebuilt: usize, changed: bool) -> Offered
         window,
         changed,
         held: false,
-        it: free_record(),
+        it: window::free_record(),
     }
 }
 

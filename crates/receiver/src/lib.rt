@@ -4,7 +4,6 @@
 // The card lends the store. Of its table of records a call gets a hand, the records in use, each with its slot (crate
 // `table`): m rows at the front of some words, with room for one row more. A call's cost goes with what is in hand.
 use answer::Answer;
-use window::Record;
 use window::Window;
 ghost use mathlib.Core.Path.{_≡_};
 ghost use mathlib.Core.Bool.{true};

@@ -2,8 +2,10 @@
 use mathlib.Core.Path.{_≡_, refl}
 use mathlib.Core.Bool.{Bool, true, false}
 use mathlib.Core.List.{List}
+use Prim.Native.Nat.{ℕ}
 use mir.Syntax.{Ty, tyInt, w64}
 use mir.Val.{Val}
+use denote.Memory.{mem}
 use denote.Struct.Laws as LL
 use Rattle.window.specs.declared.Record.{Record}
 use Rattle.window.proofs.Record as T
@@ -16,6 +18,10 @@ word = tyInt w64
 -- the machine values of a record
 abbrev pub vals : Record → List Val
 vals = LL.vals T.the-type T′.the-laws
+
+-- how many bytes a record has
+abbrev pub size : ℕ
+size = mem T.the-row .size
 
 -- a test holds or not
 pub by-cases : {X : Type 1} (t : Bool) → (t ≡ true → X) → (t ≡ false → X) → X

@@ -7,6 +7,7 @@ ghost use lib.ListN.{length};
 ghost use Rattle.answer.specs.First.{first};
 ghost use Rattle.sequence.specs.Lists.{upTo, count};
 ghost use Rattle.window.specs.Limits.{mostSide, mostMatrix, mostPositions, mostRecords, oneToSeven, setUpTests};
+ghost use Rattle.window.specs.Record.{blank};
 ghost use Rattle.window.specs.Store.{shortSizes};
 ghost use Rattle.window.specs.Bounds.{SetUp};
 ghost use Rattle.window.specs.Group.{inside};
@@ -64,6 +65,18 @@ pub struct Record {
     pub in_use: u8,
     pub snbase: u16,
     pub timestamp_recovery: u32,
+}
+
+// A free record.
+pub fn free_record() -> Record
+    ensures { λ r. ⌜ r ≡ blank ⌝ }
+{
+    Record {
+        stream: 0,
+        in_use: 0,
+        snbase: 0,
+        timestamp_recovery: 0,
+    }
 }
 
 // ---- refusals 1 to 3: the set-up numbers

@@ -62,6 +62,9 @@ zero-at-requires c κs =
     let low : the-slot-at .result < the-args .w .k = rw (the-slot-at .ensures) (the-pre .1 (ap (λ (v : Record). used v) (sym (the-record-at .ensures)) ∙ eq-eqb (the-record-at .result .«in_use») 1 (the-if1 .left))) in
     row-ends (the-slot-at .result) (the-args .w .k) (the-args .w .p) _ low (the-pre .2)
 
+free-record-requires : tie.Need-free-record-requires
+free-record-requires c κs = search needs
+
 put-record-requires : tie.Need-put-record-requires
 put-record-requires c κs = search needs
 
@@ -81,14 +84,14 @@ returns-3 : tie.Need-returns-3
 returns-3 c =
     let the-recounted = c .recounted in
     let the-one-less = c .before .one-less in
-    let the-zero-at = c .before .before .before .before .before .before .before .before .zero-at in
+    let the-zero-at = c .before .before .before .before .before .before .before .before .before .zero-at in
     let the-put-record = c .before .before .before .before .put-record in
-    let the-record-at = c .before .before .before .before .before .before .before .before .before .before .before .before .before .before .before .before .before .before .record-at in
-    let the-if1 = c .before .before .before .before .before .before .before .before .before .before .before .before .before .before .before .before .if1 in
-    let the-missing-at = c .before .before .before .before .before .before .before .before .before .before .before .before .before .before .missing-at in
-    let the-if2 = c .before .before .before .before .before .before .before .before .before .before .before .before .before .if2 in
-    let the-slot-at = c .before .before .before .before .before .before .before .before .before .before .before .slot-at in
-    rw (the-recounted .ensures, the-one-less .ensures, the-zero-at .ensures, the-put-record .ensures, ← the-record-at .ensures, eq-eqb (the-record-at .result .«in_use») 1 (the-if1 .left), ← the-missing-at .ensures, eq-eqb (the-missing-at .result) 0 (the-if2 .left), ← the-slot-at .ensures)
+    let the-record-at = c .before .before .before .before .before .before .before .before .before .before .before .before .before .before .before .before .before .before .before .record-at in
+    let the-if1 = c .before .before .before .before .before .before .before .before .before .before .before .before .before .before .before .before .before .if1 in
+    let the-missing-at = c .before .before .before .before .before .before .before .before .before .before .before .before .before .before .before .missing-at in
+    let the-if2 = c .before .before .before .before .before .before .before .before .before .before .before .before .before .before .if2 in
+    let the-slot-at = c .before .before .before .before .before .before .before .before .before .before .before .before .slot-at in
+    rw (the-recounted .ensures, the-one-less .ensures, the-zero-at .ensures, the-put-record .ensures, c .before .before .before .before .before .free-record .ensures, ← the-record-at .ensures, eq-eqb (the-record-at .result .«in_use») 1 (the-if1 .left), ← the-missing-at .ensures, eq-eqb (the-missing-at .result) 0 (the-if2 .left), ← the-slot-at .ensures)
 
 pub release-row-spec : {M : Type 1} → statement M
-release-row-spec = tie.close (tie.spec record-at-requires same-length returns missing-at-requires same-length-2 returns-2 slot-at-requires mul-zero-at zero-at-requires put-record-requires one-less-requires recounted-requires same-length-3 same-length-4 returns-3)
+release-row-spec = tie.close (tie.spec record-at-requires same-length returns missing-at-requires same-length-2 returns-2 slot-at-requires mul-zero-at zero-at-requires free-record-requires put-record-requires one-less-requires recounted-requires same-length-3 same-length-4 returns-3)

@@ -56,7 +56,7 @@ use Rattle.window.specs.Record.{blank}
 use Rattle.table.specs.Gather.{gathered}
 use Rattle.window.proofs.Record as T
 use Rattle.window.proofs.Record.Laws as T′
-use Rattle.table.proofs.Walk.{word, vals, by-cases}
+use Rattle.table.proofs.Walk.{word, vals, size, by-cases}
 use Rattle.table.proofs.Rows.{none-gathered, none-more, all-or-none}
 use Rattle.table.proofs.or_taken as or-taken
 use Rattle.table.proofs.or_taken.Symbol as or-taken-def
@@ -198,13 +198,13 @@ module _ {M : Type 1} (𝓤 : URA M) (H : Heap 𝓤) (A : Atoms 𝓤) (W : Given
           let less : i .0 < k = ltb-true (i .0) k t in
           let ly : i .0 < length ys = omega arith in
           let room : length ys < 2 ^ 64 = gn .0 in
-          let fit : Fits w64 (i .0 * 8) = scaled-fits (i .0) (length ys) 8 ly (gn .1) in
+          let fit : Fits w64 (i .0 * size) = scaled-fits (i .0) (length ys) size ly (gn .1) in
           let next-fit : Fits w64 (i .0 + 1) = record { fits = omega arith } in
           assigns ! (bin ! (load ! (from ! (stop !)) (look ! 11 refl)) (load ! (from ! (stop !)) (look ! 15 refl)) tt) (from ! (stop !)) (init ! 9 refl (tt, tt)) $
           rewrite ! 9 (λ (t : Bool). ‵ (fat fullShare tyBool l₅ 0 (vbool t))) t refl $ stays ! (load ! (from ! (stop !)) (look ! 9 refl)) $
           assigns ! (bin ! (load ! (from ! (stop !)) (look ! 11 refl)) (lit ! tt) fit) (from ! (stop !)) (init ! 7 refl (tt, fit)) $
           assigns ! (bin ! (load ! (from ! (fld ! refl (stop !))) (look-in ! 17 (sub ! 0 refl (whole !)))) (load ! (from ! (stop !)) (look ! 7 refl)) tt) (from ! (stop !)) (init ! 5 refl (tt, tt)) $
-          rewrite ! 5 (λ (p : ℕ). ‵ (fat fullShare tyPtr l₇ 0 (vptr b p))) (sym (place-is 8 o (i .0))) refl $
+          rewrite ! 5 (λ (p : ℕ). ‵ (fat fullShare tyPtr l₇ 0 (vptr b p))) (sym (place-is size o (i .0))) refl $
           -- the entry is read
           elem-out ! T.the-row (Is T.the-row) (shows 𝓤 H A T.the-row) vals (LL.tells T.the-type T′.the-laws) q″ ys (i .0) blank b o ly (λ g.
           assigns ! (of-opd ! (load ! (from ! (hop ! (look ! 7 refl) (stop !))) (look-raw ! 0 refl))) (from ! (stop !)) (init ! 5 refl (LL.lawful T.the-type T′.the-laws 𝓤 H A W .typed (elem (i .0)) _ g .0)) $

@@ -59,7 +59,7 @@ use Rattle.table.specs.Laws.{length-same}
 use Rattle.table.specs.Gather.{more, gathered, Gathered}
 use Rattle.window.proofs.Record as T
 use Rattle.window.proofs.Record.Laws as T′
-use Rattle.table.proofs.Walk.{word, vals, by-cases}
+use Rattle.table.proofs.Walk.{word, vals, size, by-cases}
 use Rattle.table.proofs.Rows.{none-yet, one-more}
 use Rattle.table.proofs.take_in as take-in
 use Rattle.table.proofs.take_in.Symbol as take-in-def
@@ -217,7 +217,7 @@ module _ {M : Type 1} (𝓤 : URA M) (H : Heap 𝓤) (A : Atoms 𝓤) (W : Given
           let ly : i .0 < length ys = omega arith in
           let room : length ys < 2 ^ 64 = gn .0 in
           let asked : (m ≤ length (hand (i .2))) × (i .0 < 65536) = (omega (arith, length-same (i .2) ws (i .5)), omega arith) in
-          let fit : Fits w64 (i .0 * 8) = scaled-fits (i .0) (length ys) 8 ly (gn .1) in
+          let fit : Fits w64 (i .0 * size) = scaled-fits (i .0) (length ys) size ly (gn .1) in
           let next-fit : Fits w64 (i .0 + 1) = record { fits = omega arith } in
           assigns ! (bin ! (load ! (from ! (stop !)) (look ! 19 refl)) (load ! (from ! (stop !)) (look ! 27 refl)) tt) (from ! (stop !)) (init ! 17 refl (tt, tt)) $
           rewrite ! 17 (λ (t : Bool). ‵ (fat fullShare tyBool l₇ 0 (vbool t))) t refl $ stays ! (load ! (from ! (stop !)) (look ! 17 refl)) $
@@ -226,7 +226,7 @@ module _ {M : Type 1} (𝓤 : URA M) (H : Heap 𝓤) (A : Atoms 𝓤) (W : Given
           rewrite ! 13 (λ (n : ℕ). ‵ (fat fullShare lent-ty l₉ 0 (sliceVal (b′, o′) n))) (sym (i .5)) refl $
           assigns ! (bin ! (load ! (from ! (stop !)) (look ! 19 refl)) (lit ! tt) fit) (from ! (stop !)) (init ! 11 refl (tt, fit)) $
           assigns ! (bin ! (load ! (from ! (fld ! refl (stop !))) (look-in ! 29 (sub ! 0 refl (whole !)))) (load ! (from ! (stop !)) (look ! 11 refl)) tt) (from ! (stop !)) (init ! 9 refl (tt, tt)) $
-          rewrite ! 9 (λ (p : ℕ). ‵ (fat fullShare tyPtr l₁₁ 0 (vptr b p))) (sym (place-is 8 o (i .0))) refl $
+          rewrite ! 9 (λ (p : ℕ). ‵ (fat fullShare tyPtr l₁₁ 0 (vptr b p))) (sym (place-is size o (i .0))) refl $
           -- the entry is read
           elem-out ! T.the-row (Is T.the-row) (shows 𝓤 H A T.the-row) vals (LL.tells T.the-type T′.the-laws) q″ ys (i .0) blank b o ly (λ g.
           assigns ! (of-opd ! (load ! (from ! (hop ! (look ! 11 refl) (stop !))) (look-raw ! 0 refl))) (from ! (stop !)) (init ! 9 refl (LL.lawful T.the-type T′.the-laws 𝓤 H A W .typed (elem (i .0)) _ g .0)) $

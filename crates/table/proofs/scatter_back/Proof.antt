@@ -54,7 +54,7 @@ use Rattle.table.specs.View.{Row, hand, slotAt, itAt, scatter}
 use Rattle.table.specs.Apart.{Within, length-scatter}
 use Rattle.window.proofs.Record as T
 use Rattle.window.proofs.Record.Laws as T′
-use Rattle.table.proofs.Walk.{word, vals, by-cases}
+use Rattle.table.proofs.Walk.{word, vals, size, by-cases}
 use Rattle.table.proofs.Rows.{back, none-back, slot-of, below-rows, one-back}
 use Rattle.table.proofs.record_at as record-at
 use Rattle.table.proofs.record_at.Symbol as record-at-def
@@ -242,10 +242,10 @@ module _ {M : Type 1} (𝓤 : URA M) (H : Heap 𝓤) (A : Atoms 𝓤) (W : Given
           let es : s ≡ slotAt gs j = slot-of hs m ys mw j s lj se in
           let ls : s < length ys = below-rows hs m ys mw (length ys) inside j s lj es in
           let lz : s < length (upto (i .0)) = omega (arith, same-length (i .0)) in
-          let fit : Fits w64 (s * 8) = scaled-fits s (length ys) 8 ls (gn .1) in
+          let fit : Fits w64 (s * size) = scaled-fits s (length ys) size ls (gn .1) in
           assigns ! (bin ! (load ! (from ! (stop !)) (look ! 14 refl)) (lit ! tt) fit) (from ! (stop !)) (init ! 8 refl (tt, fit)) $
           assigns ! (bin ! (load ! (from ! (fld ! refl (stop !))) (look-in ! 22 (sub ! 0 refl (whole !)))) (load ! (from ! (stop !)) (look ! 8 refl)) tt) (from ! (stop !)) (init ! 6 refl (tt, tt)) $
-          rewrite ! 6 (λ (p : ℕ). ‵ (fat fullShare tyPtr l₉ 0 (vptr b p))) (sym (place-is 8 o s)) refl $
+          rewrite ! 6 (λ (p : ℕ). ‵ (fat fullShare tyPtr l₉ 0 (vptr b p))) (sym (place-is size o s)) refl $
           -- the entry is stored to
           elem-out ! T.the-row (Is T.the-row) (shows 𝓤 H A T.the-row) vals (LL.tells T.the-type T′.the-laws) fullShare (upto (i .0)) s blank b o lz (λ _.
           assigns-last ! (of-opd ! (load ! (from ! (stop !)) (look ! 12 refl))) (from ! (hop ! (look ! 8 refl) (stop !))) (store-raw ! 0 refl (LL.lawful T.the-type T′.the-laws 𝓤 H A W .typed r _ ris .0)) $

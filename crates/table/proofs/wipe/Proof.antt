@@ -50,7 +50,7 @@ use Rattle.window.specs.Record.{blank}
 use Rattle.table.specs.Gather.{wiped}
 use Rattle.window.proofs.Record as T
 use Rattle.window.proofs.Record.Laws as T′
-use Rattle.table.proofs.Walk.{word, vals, by-cases}
+use Rattle.table.proofs.Walk.{word, vals, size, by-cases}
 use Rattle.table.proofs.Rows.{one-wiped, length-wiped}
 use Rattle.table.proofs.wipe.Key.{name as #table·wipe}
 use Rattle.table.proofs.wipe as f
@@ -148,7 +148,7 @@ module _ {M : Type 1} (𝓤 : URA M) (H : Heap 𝓤) (A : Atoms 𝓤) (W : Given
           let ly : i .0 < length ys = omega arith in
           let lz : i .0 < length (upto (i .0)) = omega (arith, length-wiped (i .0) ys (omega arith)) in
           let room : length ys < 2 ^ 64 = gn .0 in
-          let fit : Fits w64 (i .0 * 8) = scaled-fits (i .0) (length ys) 8 ly (gn .1) in
+          let fit : Fits w64 (i .0 * size) = scaled-fits (i .0) (length ys) size ly (gn .1) in
           let next-fit : Fits w64 (i .0 + 1) = record { fits = omega arith } in
           let next : Upto = (i .0 + 1, omega arith) in
           let nearer : Nearer next i = omega arith in
@@ -158,7 +158,7 @@ module _ {M : Type 1} (𝓤 : URA M) (H : Heap 𝓤) (A : Atoms 𝓤) (W : Given
           assigns ! (agg ! (and-then ! (lit ! tt) (and-then ! (lit ! tt) (and-then ! (lit ! tt) (and-then ! (lit ! tt) (no-more !)))))) (from ! (stop !)) (init ! 8 refl (LL.lawful T.the-type T′.the-laws 𝓤 H A W .typed blank (vals blank) made .0)) $
           assigns ! (bin ! (load ! (from ! (stop !)) (look ! 12 refl)) (lit ! tt) fit) (from ! (stop !)) (init ! 6 refl (tt, fit)) $
           assigns ! (bin ! (load ! (from ! (fld ! refl (stop !))) (look-in ! 16 (sub ! 0 refl (whole !)))) (load ! (from ! (stop !)) (look ! 6 refl)) tt) (from ! (stop !)) (init ! 4 refl (tt, tt)) $
-          rewrite ! 4 (λ (p : ℕ). ‵ (fat fullShare tyPtr l₇ 0 (vptr b p))) (sym (place-is 8 o (i .0))) refl $
+          rewrite ! 4 (λ (p : ℕ). ‵ (fat fullShare tyPtr l₇ 0 (vptr b p))) (sym (place-is size o (i .0))) refl $
           -- the entry is stored to
           elem-out ! T.the-row (Is T.the-row) (shows 𝓤 H A T.the-row) vals (LL.tells T.the-type T′.the-laws) fullShare (upto (i .0)) (i .0) blank b o lz (λ _.
           assigns ! (of-opd ! (load ! (from ! (stop !)) (look ! 10 refl))) (from ! (hop ! (look ! 6 refl) (stop !))) (store-raw ! 0 refl (LL.lawful T.the-type T′.the-laws 𝓤 H A W .typed blank (vals blank) made .0)) $

@@ -24,8 +24,11 @@ slice-aggregate-put-row c = search needs
 cast-put-row : tie.Need-cast-put-row Inv-loop μ-loop
 cast-put-row c = search needs
 
+free-record-requires : tie.Need-free-record-requires Inv-loop μ-loop
+free-record-requires c κs = search needs
+
 put-row-requires : tie.Need-put-row-requires Inv-loop μ-loop
-put-row-requires c κs = (omega (arith, c .before .loop-test .taken, length-hand 9 (c .before .before .loop .words) (c .before .before .loop .inv .1)), omega (arith, c .before .loop-test .taken), omega arith)
+put-row-requires c κs = (omega (arith, c .before .before .loop-test .taken, length-hand 9 (c .before .before .before .loop .words) (c .before .before .before .loop .inv .1)), omega (arith, c .before .before .loop-test .taken), omega arith)
 
 add-i : tie.Need-add-i Inv-loop μ-loop
 add-i c = search needs
@@ -34,10 +37,10 @@ loop-less : tie.Need-loop-less Inv-loop μ-loop
 loop-less c = search needs
 
 loop-again : tie.Need-loop-again Inv-loop μ-loop
-loop-again c = (omega (arith, c .before .before .before .loop-test .taken), omega (arith, c .before .put-row .kept, c .before .before .before .before .loop .inv .1))
+loop-again c = (omega (arith, c .before .before .before .before .loop-test .taken), omega (arith, c .before .put-row .kept, c .before .before .before .before .before .loop .inv .1))
 
 returns : tie.Need-returns Inv-loop μ-loop
 returns c = search needs
 
 pub free-rows-spec : {M : Type 1} → statement M
-free-rows-spec = tie.close (tie.spec Inv-loop μ-loop loop-holds slice-aggregate-put-row cast-put-row put-row-requires add-i loop-less loop-again returns)
+free-rows-spec = tie.close (tie.spec Inv-loop μ-loop loop-holds slice-aggregate-put-row cast-put-row free-record-requires put-row-requires add-i loop-less loop-again returns)
