@@ -37,6 +37,8 @@ pub use store::{Lent, Owned, Record, Store};
 pub const MEDIA_HEADER: usize = 12;
 /// Bytes before the payload of a parity datagram.
 pub const PARITY_HEADER: usize = 28;
+/// The largest payload: 7 transport packets of 204 bytes.
+pub const PAYLOAD_MAX: usize = 7 * 204;
 
 /// What a window is opened with.
 #[derive(Clone, Copy, Debug, PartialEq, Eq)]
@@ -156,8 +158,10 @@ impl<S: Store> Receiver<S> {
 
     /// The packet of a number, as a datagram.
     pub fn packet(&self, number: u16) -> Result<Vec<u8>, Refusal> {
-        let mut out = vec![0; MEDIA_HEADER + self.window.p];
-        self.read(number, &mut out).map(|_| out)
+        // The call is asked first, with room for the largest packet: a window value that was made up may name any size.
+        let mut out = [0; MEDIA_HEADER + PAYLOAD_MAX];
+        let len = self.read(number, &mut out)?;
+        Ok(out.iter().take(len).copied().collect())
     }
 
     /// Writes the parity datagram of the column that starts at a number, [`PARITY_HEADER`] + payload bytes. Answers how many bytes.

@@ -25,29 +25,6 @@ pub enum Refusal {
 }
 
 impl Refusal {
-    const ALL: [Refusal; 17] = {
-        use Refusal::*;
-        [
-            BadProfile,
-            BadPayloadSize,
-            BadRoom,
-            ShortBuffer,
-            Disorder,
-            ShortDatagram,
-            BadRtpHeader,
-            BadPayloadType,
-            BadLength,
-            BadFecHeader,
-            BadRecovery,
-            BadShape,
-            Outside,
-            Repeat,
-            Differs,
-            Full,
-            Missing,
-        ]
-    };
-
     /// The number of the refusal, 1 to 17.
     pub fn number(self) -> u32 {
         self as u32
@@ -55,10 +32,26 @@ impl Refusal {
 
     /// The count of an answer, or its refusal.
     pub(crate) fn check(answer: &face::Answer) -> Result<usize, Refusal> {
-        match answer.number {
-            0 => Ok(answer.count),
-            number => Err(Self::ALL[number as usize - 1]),
-        }
+        Err(match answer.number {
+            0 => return Ok(answer.count),
+            1 => Refusal::BadProfile,
+            2 => Refusal::BadPayloadSize,
+            3 => Refusal::BadRoom,
+            4 => Refusal::ShortBuffer,
+            5 => Refusal::Disorder,
+            6 => Refusal::ShortDatagram,
+            7 => Refusal::BadRtpHeader,
+            8 => Refusal::BadPayloadType,
+            9 => Refusal::BadLength,
+            10 => Refusal::BadFecHeader,
+            11 => Refusal::BadRecovery,
+            12 => Refusal::BadShape,
+            13 => Refusal::Outside,
+            14 => Refusal::Repeat,
+            15 => Refusal::Differs,
+            16 => Refusal::Full,
+            _ => Refusal::Missing, // 17, the last
+        })
     }
 }
 
