@@ -4,19 +4,87 @@
  * A card opens a window over n consecutive packets, offers it every datagram that
  * arrives, and reads packets back out; it can also write the parity of any complete
  * group. The library keeps nothing: the card lends the store to every call, and gets
- * the next window value back beside the answer.
+ * the next window value back beside the answer. It has no heap, clock, socket or
+ * variable of its own, asks for memcpy and memset and nothing else, and runs on x86-64.
+ *
+ *     static uint8_t media[200 * 1316], marks[200], parity[40 * 1316];
+ *     static uint32_t timestamps[200];
+ *     static struct cgv_record records[40];
+ *     static struct cgv_receiver r = {
+ *         CGV_NO_WINDOW, CGV_STORE_OF_ARRAYS(media, timestamps, marks, parity, records)};
+ *
+ *     cgv_receiver_open(&r, first_number, 10, 10, 1316, 200, 40, ssrc);
+ *     cgv_receiver_media(&r, datagram, len);   (or _column, _row: by the port it came in on)
+ *     payload = cgv_receiver_payload(&r, number);   (NULL where it is missing)
  *
  * What a call does is proved for every input: answer, next window value and every lent
- * byte are those of its definition. The proof takes for granted what the caller owes:
+ * byte are those of its definition. The functions written out in this header are not
+ * proved; they are tested.
  *
- *   - every pointer is valid for its length, also where the length is 0 (not NULL),
- *     and aligned for its type;
- *   - the buffers of one call do not overlap;
- *   - one call at a time on a store.
+ * What the caller owes
+ *   - Every pointer is valid for its length, also where the length is 0 (not NULL), and
+ *     aligned for its type.
+ *   - The buffers of one call do not overlap.
+ *   - A call that may write the store (cgv_open, cgv_media, cgv_column, cgv_row) is alone
+ *     on that store. Calls that only read it (cgv_read, cgv_write_column, cgv_write_row
+ *     and the helpers here that take a const receiver) may run side by side, each with an
+ *     output of its own. Calls on different stores never meet.
+ * Nothing is asked of what the buffers and datagrams hold: no packet needs vetting first.
  *
- * Buffers may be longer than needed; what is past the need is never touched. A refused
- * call gives back its number, a count of 0 and the same window value, and has written
- * to none of the buffers.
+ * The store: position i stands for sequence number (base + i) modulo 65,536
+ *   media       n x P bytes: the payload of position i is the P bytes at media + i * P
+ *   timestamps  n numbers in the machine's byte order
+ *   marks       n bytes: 1 the packet of position i is present, received or rebuilt;
+ *               0 it is missing, and the bytes at media + i * P mean nothing
+ *   parity      K x P bytes: the payload of record j is the P bytes at parity + j * P
+ *   records     K records: parity packets in hand, that wait for two or more packets
+ * Where marks[i] is 1, media + i * P and timestamps[i] may be read directly, between
+ * calls. Nobody but the calls may write the store while a window is open; a store that
+ * was changed is refused with 5 as far as that can be seen.
+ * A buffer may be longer than its need; what is past the need is never touched.
+ * cgv_open writes all that the window needs of the five parts, an offer some of that;
+ * cgv_read and the writing of parity write the output alone.
+ *
+ * How large
+ *   n: L x D at least, 400 at most. Senders put a matrix's column parity on the line
+ *   while the next matrix goes by, so take 2 x L x D or more.
+ *   K: 128 at most. Room for every parity packet that may be of use is as many as there
+ *   are groups in the window: L + D for each matrix that the window touches (L alone
+ *   where there are no rows). With less, 16 says that one was not taken; with that much,
+ *   unaltered traffic never meets 16.
+ *   Anyone who can send to the parity ports can hold all K records with K forged parity
+ *   packets, each over packets that are missing, until these arrive or the window ends:
+ *   true parity then meets 16. Sender addresses are the card's to check.
+ *
+ * What to do with an answer
+ *   0          taken in. The count of an offer is packets rebuilt, and not packets lost on
+ *              the line: some senders (GStreamer) send a row's parity before the row's
+ *              last packet, so a stream without a loss reports rebuilt packets, each
+ *              followed by a 14. "Recovered" is rebuilt and never arrived;
+ *              congaveil_desk.h counts so.
+ *   13 14 16   routine: of another window; already there; no room for it now.
+ *   15         on media THE ALARM: a packet already marked present differs from the one
+ *              that arrived. One of the two is wrong, and the one in the store may have
+ *              gone to air. On parity: two parity packets of one group differ.
+ *   17         routine when reading: the packet is missing.
+ *   6 to 12    a datagram of another kind, port or profile, or a damaged one.
+ *   1 to 5     a fault in the card: set-up, buffers, or a store that somebody changed.
+ * A refused call gives a count of 0 and has written to none of the buffers. It hands back
+ * the window value that it was given; a refused opening gives a window value of zeros,
+ * which every other call refuses with 1.
+ *
+ * Stack and time
+ *   A call needs less than 9 KB of stack (measured; tests/guard.c fails above it).
+ *   Time goes with n, with the records in use and with the packets rebuilt; there is no
+ *   other loop. At P 1,316, n 400, K 128 a media packet takes some 0.2 us and the worst
+ *   call found, one late packet that rebuilds 100, some 50 us: docs/PERFORMANCE.md.
+ *
+ * An endless stream
+ *   A window stands still. Open the next one (n positions, a store of its own) before the
+ *   last one ends, and offer every datagram to both; 13 is the answer of the one that it
+ *   is not for. Windows that overlap by (D - 1) x L positions lose no group at the seams:
+ *   each group of the stream lies wholly in one of them. Windows end to end cut the
+ *   groups that cross a seam, unless each starts where a matrix starts.
  */
 #ifndef CONGAVEIL_H
 #define CONGAVEIL_H
@@ -24,12 +92,33 @@
 #include <stddef.h>
 #include <stdint.h>
 
+#define CGV_VERSION_MAJOR 0
+#define CGV_VERSION_MINOR 1
+#define CGV_VERSION_PATCH 0
+#define CGV_VERSION "0.1.0"
+
+/* Limits and header sizes; sizes are in bytes. */
+#define CGV_L_MAX 20           /* columns, from 1; rows carry parity only where L >= 4 */
+#define CGV_D_MIN 4            /* rows */
+#define CGV_D_MAX 20
+#define CGV_MATRIX_MAX 100     /* L x D */
+#define CGV_PAYLOAD_MAX 1428   /* P: k x 188 or k x 204, k from 1 to 7 */
+#define CGV_POSITIONS_MAX 400  /* n, from L x D */
+#define CGV_RECORDS_MAX 128    /* K, from 1 */
+#define CGV_MEDIA_HEADER 12    /* RTP header */
+#define CGV_PARITY_HEADER 28   /* RTP header and parity header */
+#define CGV_MEDIA_DATAGRAM_MAX (CGV_MEDIA_HEADER + CGV_PAYLOAD_MAX)
+#define CGV_PARITY_DATAGRAM_MAX (CGV_PARITY_HEADER + CGV_PAYLOAD_MAX)
+
 #ifdef __cplusplus
+#define CGV_CAST(type, value) static_cast<type>(value)
 extern "C" {
+#else
+#define CGV_CAST(type, value) ((type)(value))
 #endif
 
 /* A window value. Only the calls make one; a made-up value is taken at its word as far
- * as it passes refusals 1 to 5. */
+ * as it passes refusals 1 to 5. It may be copied and looked at. */
 struct cgv_window {
     uint16_t base;   /* sequence number of position 0 */
     uint32_t ssrc;   /* written by cgv_read */
@@ -41,7 +130,8 @@ struct cgv_window {
     size_t in_use;   /* records in use */
 };
 
-/* A parity packet in hand; its payload stands at the same index of the parity part. */
+/* A parity packet in hand; its payload stands at the same index of the parity part.
+ * The numbers are in the machine's byte order. */
 struct cgv_record {
     uint8_t stream;  /* 0 a column, 1 a row */
     uint8_t in_use;  /* 1, or 0 where the record is free */
@@ -57,6 +147,21 @@ struct cgv_answer {
     struct cgv_window window;
 };
 
+/* The library was compiled for this layout; a compiler that differs stops here. */
+#define CGV_LAYOUT(name, holds) typedef char cgv_layout_##name[(holds) ? 1 : -1]
+CGV_LAYOUT(size_t_has_8_bytes, sizeof(size_t) == 8);
+CGV_LAYOUT(window, sizeof(struct cgv_window) == 64 && offsetof(struct cgv_window, ssrc) == 4 &&
+                       offsetof(struct cgv_window, l) == 8 && offsetof(struct cgv_window, d) == 16 &&
+                       offsetof(struct cgv_window, p) == 24 && offsetof(struct cgv_window, n) == 32 &&
+                       offsetof(struct cgv_window, k) == 40 && offsetof(struct cgv_window, present) == 48 &&
+                       offsetof(struct cgv_window, in_use) == 56);
+CGV_LAYOUT(record, sizeof(struct cgv_record) == 8 && offsetof(struct cgv_record, in_use) == 1 &&
+                       offsetof(struct cgv_record, snbase) == 2 &&
+                       offsetof(struct cgv_record, timestamp_recovery) == 4);
+CGV_LAYOUT(answer, sizeof(struct cgv_answer) == 80 && offsetof(struct cgv_answer, count) == 8 &&
+                       offsetof(struct cgv_answer, window) == 16);
+
+/* Answers: the first refusal that applies, in this order. */
 enum {
     CGV_DONE = 0,
     CGV_BAD_PROFILE = 1,      /* not 1 <= L <= 20, 4 <= D <= 20, L x D <= 100 */
@@ -73,53 +178,73 @@ enum {
     CGV_BAD_SHAPE = 12,       /* wrong port, offset or NA, or a row where L < 4 */
     CGV_OUTSIDE = 13,         /* a number or a member of the group is not in the window */
     CGV_REPEAT = 14,          /* already held, the same */
-    CGV_DIFFERS = 15,         /* already held, with a difference */
+    CGV_DIFFERS = 15,         /* already held, with a difference: on media, the alarm */
     CGV_FULL = 16,            /* two or more are missing and every record is in use */
     CGV_MISSING = 17          /* reading a missing packet, or writing parity over one */
 };
+#define CGV_NUMBERS 18        /* numbers from 0 to 17 */
 
-/* The store is lent as five parts with a length each, counted in elements:
- *   media n x P bytes, timestamps n, marks n, parity K x P bytes, records K. */
-#define CGV_STORE_PARAMETERS                                                              \
-    uint8_t *media, size_t media_len, uint32_t *timestamps, size_t timestamps_len,        \
-        uint8_t *marks, size_t marks_len, uint8_t *parity, size_t parity_len,             \
-        struct cgv_record *records, size_t records_len
-#define CGV_CONST_STORE_PARAMETERS                                                        \
-    const uint8_t *media, size_t media_len, const uint32_t *timestamps,                   \
-        size_t timestamps_len, const uint8_t *marks, size_t marks_len,                    \
-        const uint8_t *parity, size_t parity_len, const struct cgv_record *records,       \
-        size_t records_len
+/* ---- the seven calls. The store is lent as five parts, each with its length in elements. */
 
-/* Opens a window: 0, or 1 to 4 with a window value of zeros, which every other call
- * refuses with 1. All that the window needs of the store is set to zero. */
+/* Opens a window: 0, or 1 to 4 with a window value of zeros. All that the window needs of
+ * the store is set to zero, so that every packet is missing and every record free. */
 struct cgv_answer cgv_open(uint16_t base, size_t l, size_t d, size_t p, size_t n, size_t k,
-                           uint32_t ssrc, CGV_STORE_PARAMETERS);
+                           uint32_t ssrc, uint8_t *media, size_t media_len,
+                           uint32_t *timestamps, size_t timestamps_len, uint8_t *marks,
+                           size_t marks_len, uint8_t *parity, size_t parity_len,
+                           struct cgv_record *records, size_t records_len);
 
-/* Offers a datagram that came in on the media port (1 to 9, 13 to 15), the column parity
- * port or the row parity port (1 to 16). The count is of packets rebuilt. */
+/* Offers a datagram that came in on the media port (0, 1 to 9, 13 to 15): the UDP payload,
+ * RTP header first. The count is of packets rebuilt. */
 struct cgv_answer cgv_media(struct cgv_window w, const uint8_t *datagram, size_t len,
-                            CGV_STORE_PARAMETERS);
+                            uint8_t *media, size_t media_len, uint32_t *timestamps,
+                            size_t timestamps_len, uint8_t *marks, size_t marks_len,
+                            uint8_t *parity, size_t parity_len, struct cgv_record *records,
+                            size_t records_len);
+
+/* Offers a datagram that came in on the column parity port (0, 1 to 16). */
 struct cgv_answer cgv_column(struct cgv_window w, const uint8_t *datagram, size_t len,
-                             CGV_STORE_PARAMETERS);
+                             uint8_t *media, size_t media_len, uint32_t *timestamps,
+                             size_t timestamps_len, uint8_t *marks, size_t marks_len,
+                             uint8_t *parity, size_t parity_len, struct cgv_record *records,
+                             size_t records_len);
+
+/* Offers a datagram that came in on the row parity port (0, 1 to 16). */
 struct cgv_answer cgv_row(struct cgv_window w, const uint8_t *datagram, size_t len,
-                          CGV_STORE_PARAMETERS);
+                          uint8_t *media, size_t media_len, uint32_t *timestamps,
+                          size_t timestamps_len, uint8_t *marks, size_t marks_len,
+                          uint8_t *parity, size_t parity_len, struct cgv_record *records,
+                          size_t records_len);
 
-/* Reads the packet of a sequence number out: 12 + P bytes (1 to 5, 13, 17). */
-struct cgv_answer cgv_read(struct cgv_window w, uint16_t number, CGV_CONST_STORE_PARAMETERS,
-                           uint8_t *out, size_t out_len);
+/* Reads the packet of a sequence number out as a datagram: 12 + P bytes, with the SSRC of
+ * the window (0, 1 to 5, 13, 17). The count is of bytes written. */
+struct cgv_answer cgv_read(struct cgv_window w, uint16_t number, const uint8_t *media,
+                           size_t media_len, const uint32_t *timestamps,
+                           size_t timestamps_len, const uint8_t *marks, size_t marks_len,
+                           const uint8_t *parity, size_t parity_len,
+                           const struct cgv_record *records, size_t records_len, uint8_t *out,
+                           size_t out_len);
 
-/* Writes the parity packet of the group that starts at snbase: 28 + P bytes
- * (1 to 5, 12, 13, 17). Sequence number, timestamp and SSRC are those of the parity stream. */
+/* Writes the parity datagram of the column that starts at snbase: 28 + P bytes
+ * (0, 1 to 5, 13, 17). Sequence number, timestamp and SSRC are those of the parity stream. */
 struct cgv_answer cgv_write_column(struct cgv_window w, uint16_t snbase, uint16_t sequence,
-                                   uint32_t timestamp, uint32_t ssrc,
-                                   CGV_CONST_STORE_PARAMETERS, uint8_t *out, size_t out_len);
+                                   uint32_t timestamp, uint32_t ssrc, const uint8_t *media,
+                                   size_t media_len, const uint32_t *timestamps,
+                                   size_t timestamps_len, const uint8_t *marks,
+                                   size_t marks_len, const uint8_t *parity,
+                                   size_t parity_len, const struct cgv_record *records,
+                                   size_t records_len, uint8_t *out, size_t out_len);
+
+/* Writes the parity datagram of the row that starts at snbase (the same, and 12 where L < 4). */
 struct cgv_answer cgv_write_row(struct cgv_window w, uint16_t snbase, uint16_t sequence,
-                                uint32_t timestamp, uint32_t ssrc,
-                                CGV_CONST_STORE_PARAMETERS, uint8_t *out, size_t out_len);
+                                uint32_t timestamp, uint32_t ssrc, const uint8_t *media,
+                                size_t media_len, const uint32_t *timestamps,
+                                size_t timestamps_len, const uint8_t *marks, size_t marks_len,
+                                const uint8_t *parity, size_t parity_len,
+                                const struct cgv_record *records, size_t records_len,
+                                uint8_t *out, size_t out_len);
 
-/* ---- a store and a window in one, so that a card's code reads well ---- */
-
-enum { CGV_MEDIA_HEADER = 12, CGV_PARITY_HEADER = 28 };
+/* ---- a store and a window in one, so that a card's code reads well */
 
 /* What a card lends. The lengths are in elements. */
 struct cgv_store {
@@ -140,17 +265,27 @@ struct cgv_receiver {
     struct cgv_store store;
 };
 
+/* Initialisers: no window yet (every call but opening refuses it with 1), and a store of
+ * five arrays. */
+#define CGV_NO_WINDOW {0, 0, 0, 0, 0, 0, 0, 0, 0}
+#define CGV_STORE_OF_ARRAYS(media, timestamps, marks, parity, records)                     \
+    {media, sizeof(media), timestamps, sizeof(timestamps) / sizeof((timestamps)[0]),      \
+     marks, sizeof(marks), parity, sizeof(parity),                                        \
+     records, sizeof(records) / sizeof((records)[0])}
+
 #define CGV_STORE_ARGUMENTS(s)                                                            \
     (s).media, (s).media_len, (s).timestamps, (s).timestamps_len, (s).marks,              \
         (s).marks_len, (s).parity, (s).parity_len, (s).records, (s).records_len
 
-/* Opens a window in a receiver whose store is filled in. */
+/* Opens a window in a receiver whose store is filled in. Where it is refused, a window that
+ * was open stays open, and nothing of it has changed. */
 static inline struct cgv_answer cgv_receiver_open(struct cgv_receiver *r, uint16_t base,
                                                   size_t l, size_t d, size_t p, size_t n,
                                                   size_t k, uint32_t ssrc)
 {
     struct cgv_answer a = cgv_open(base, l, d, p, n, k, ssrc, CGV_STORE_ARGUMENTS(r->store));
-    r->window = a.window;
+    if (a.number == CGV_DONE)
+        r->window = a.window;
     return a;
 }
 
@@ -201,12 +336,57 @@ cgv_receiver_write_row(const struct cgv_receiver *r, uint16_t snbase, uint16_t s
                          CGV_STORE_ARGUMENTS(r->store), out, out_len);
 }
 
+/* The position of a sequence number: its distance ahead of the base, counted with wrap.
+ * It is in the window where that is below n. */
+static inline size_t cgv_position(const struct cgv_window *w, uint16_t number)
+{
+    return (number + 65536u - w->base) & 65535u;
+}
+
+/* The sequence number of a position. */
+static inline uint16_t cgv_number(const struct cgv_window *w, size_t position)
+{
+    return CGV_CAST(uint16_t, (w->base + position) & 65535u);
+}
+
 /* Whether the packet of a sequence number is in the window and present. */
 static inline int cgv_receiver_has(const struct cgv_receiver *r, uint16_t number)
 {
-    size_t position = (uint16_t)(number - r->window.base);
+    size_t position = cgv_position(&r->window, number);
     return position < r->window.n && position < r->store.marks_len &&
            r->store.marks[position] == 1;
+}
+
+/* The payload of a sequence number where it lies in the store, P bytes, or NULL where the
+ * packet is missing or not of the window. It stays as it is until the next opening. */
+static inline const uint8_t *cgv_receiver_payload(const struct cgv_receiver *r,
+                                                  uint16_t number)
+{
+    size_t position = cgv_position(&r->window, number), p = r->window.p;
+    if (!cgv_receiver_has(r, number) || p == 0 || position >= r->store.media_len / p)
+        return NULL;
+    return r->store.media + position * p;
+}
+
+/* ---- for routing: the numbers of a datagram that was not offered yet. 1, or 0 where it
+ * is too short to have one; nothing else of it is looked at. */
+
+/* The sequence number of a media datagram. */
+static inline int cgv_media_number(const uint8_t *datagram, size_t len, uint16_t *number)
+{
+    if (len < CGV_MEDIA_HEADER)
+        return 0;
+    *number = CGV_CAST(uint16_t, datagram[2] << 8 | datagram[3]);
+    return 1;
+}
+
+/* The SNBase of a parity datagram: the first number of its group. */
+static inline int cgv_parity_snbase(const uint8_t *datagram, size_t len, uint16_t *snbase)
+{
+    if (len < CGV_PARITY_HEADER)
+        return 0;
+    *snbase = CGV_CAST(uint16_t, datagram[12] << 8 | datagram[13]);
+    return 1;
 }
 
 /* A number in words. */

@@ -104,6 +104,12 @@ static void fail(const char *what, struct cgv_answer a)
     exit(1);
 }
 
+static void broken(const char *what)
+{
+    fprintf(stderr, "not as it must be: %s\n", what);
+    exit(1);
+}
+
 /* What must hold of every answer; w is the window value that went in, and only an accepted call that changes the store may
  * do so, and only within its need. */
 static void check(const char *what, struct bench *b, struct cgv_window w, struct cgv_answer a, uint32_t number, size_t count,
@@ -218,6 +224,40 @@ static void set_ups(void)
     opens("K - 1 records", &b, L, D, P, N, K, 4);
     b.r.store.records_len = K + spare;
     opens("opens", &b, L, D, P, N, K, 0);
+    offers("taken", &b, cgv_receiver_media, g, media(g, BASE), 0, 0);
+    opens("refused while a window is open", &b, L, 3, P, N, K, 1);
+    offers("the window is still open", &b, cgv_receiver_media, g, media(g, BASE), 14, 0);
+    end_bench(&b);
+}
+
+/* The helpers that take no call: numbers of a datagram, positions, the payload where it lies. */
+static void helpers(void)
+{
+    struct bench b = new_bench(N, P, K);
+    uint8_t g[28 + P];
+    uint16_t number = 1;
+    opens("opens", &b, L, D, P, N, K, 0);
+    offers("taken", &b, cgv_receiver_media, g, media(g, 2), 0, 0);
+    if (cgv_media_number(g, 11, &number) || number != 1 || !cgv_media_number(g, 12, &number) || number != 2)
+        broken("the number of a media datagram");
+    if (cgv_position(&b.r.window, 2) != 8 || cgv_position(&b.r.window, BASE - 1) != 65535 || cgv_number(&b.r.window, 8) != 2 ||
+        cgv_number(&b.r.window, 0) != BASE)
+        broken("position and number");
+    if (cgv_receiver_payload(&b.r, 2) != b.r.store.media + 8 * P || memcmp(cgv_receiver_payload(&b.r, 2), g + 12, P) ||
+        cgv_receiver_payload(&b.r, 3) || cgv_receiver_payload(&b.r, BASE - 1))
+        broken("the payload where it lies");
+    parity(g, 0, 0x1234);
+    if (cgv_parity_snbase(g, 27, &number) || number != 2 || !cgv_parity_snbase(g, 28, &number) || number != 0x1234)
+        broken("the SNBase of a parity datagram");
+    b.r.store.media_len = 9 * P - 1;
+    if (cgv_receiver_payload(&b.r, 2))
+        broken("a payload past the end of the media part");
+    b.r.window.p = 0;
+    if (cgv_receiver_payload(&b.r, 2))
+        broken("a payload of a window with P 0");
+    b.r.window.p = SIZE_MAX;
+    if (cgv_receiver_payload(&b.r, 2))
+        broken("a payload of a window with the largest P");
     end_bench(&b);
 }
 
@@ -340,6 +380,7 @@ int main(void)
     uint32_t number;
     for (spare = 0; spare <= SPARE; spare += SPARE) {
         set_ups();
+        helpers();
         media_offers();
         parity_offers();
         rebuilds();
