@@ -1,89 +1,138 @@
-/* A card in C: opens a window at the first packet of a capture, across the wrap of the sequence counter, feeds it the
- * capture with losses, and prints what was rebuilt and what stays missing.
+/* A card in C: opens a window at the first media packet of a capture, feeds it the capture with losses, and prints what was recovered
+ * and what stays missing.
  *
  *     card FILE L D PAYLOAD
  *
  * A capture is a run of entries: one byte of kind (1 media, 2 column parity, 3 row parity), two bytes of length, big-endian,
- * and the datagram. Lost here: packets 8 to 12, a burst of 16 from 40 on, and every 17th. */
-#include <congaveil.h>
+ * and the datagram. Lost here: positions 8 to 12, a burst of 16 from 40 on, and every 17th.
+ * Exits with 1 where the file is at fault or the window cannot be opened, with 2 where the arguments are. */
+#include <congaveil_desk.h>
+#include <errno.h>
 #include <stdio.h>
 #include <stdlib.h>
+#include <string.h>
 
-enum { POSITIONS = 200, RECORDS = 80, LARGEST = 7 * 204 };
+enum { POSITIONS = 200, RECORDS = 80 };
 
-static uint8_t media[POSITIONS * LARGEST], marks[POSITIONS], parity[RECORDS * LARGEST];
+static uint8_t media[POSITIONS * CGV_PAYLOAD_MAX], marks[POSITIONS], parity[RECORDS * CGV_PAYLOAD_MAX];
 static uint32_t timestamps[POSITIONS];
 static struct cgv_record records[RECORDS];
+
+static struct cgv_receiver card = {CGV_NO_WINDOW, CGV_STORE_OF_ARRAYS(media, timestamps, marks, parity, records)};
+static struct cgv_desk desk;
+
+/* A capture that is being read: where the next entry starts, and its number from 1 on. */
+struct capture {
+    const char *name;
+    FILE *file;
+    unsigned long at, entry;
+};
+
+static void fault(const struct capture *c, const char *what)
+{
+    fprintf(stderr, "card: %s: entry %lu, at byte %lu: %s\n", c->name, c->entry, c->at, what);
+    exit(1);
+}
+
+/* The next entry of a capture: its kind, or 0 at the end. */
+static int next_entry(struct capture *c, uint8_t *datagram, size_t *len)
+{
+    uint8_t head[3];
+    size_t got = fread(head, 1, sizeof head, c->file);
+    c->entry++;
+    if (got == 0 && !ferror(c->file))
+        return 0;
+    if (got < sizeof head)
+        fault(c, ferror(c->file) ? strerror(errno) : "cut inside its kind and length");
+    if (head[0] < 1 || head[0] > 3)
+        fault(c, "a kind that is not 1, 2 or 3");
+    *len = (size_t)head[1] << 8 | head[2];
+    if (fread(datagram, 1, *len, c->file) < *len)
+        fault(c, ferror(c->file) ? strerror(errno) : "cut inside its datagram");
+    c->at += (unsigned long)(sizeof head + *len);
+    return head[0];
+}
 
 static int lost(size_t position)
 {
     return (position >= 8 && position < 13) || (position >= 40 && position < 56) || position % 17 == 16;
 }
 
-static uint16_t number_of(const uint8_t *datagram) { return (uint16_t)(datagram[2] << 8 | datagram[3]); }
-
-/* The next entry of a capture: its kind, or 0 at the end. */
-static int next_entry(FILE *f, uint8_t *datagram, size_t room, size_t *len)
-{
-    int kind = getc(f), high = getc(f), low = getc(f);
-    if (low == EOF)
-        return 0;
-    *len = (size_t)high << 8 | (size_t)low;
-    return *len <= room && fread(datagram, 1, *len, f) == *len ? kind : 0;
-}
-
-static void print_numbers(const struct cgv_receiver *r, const char *what, int present, const uint8_t *dropped)
+static void print_numbers(const char *what, int how)
 {
     size_t i, count = 0;
     printf("%s:", what);
-    for (i = 0; i < r->window.n; i++)
-        if (dropped[i] && cgv_receiver_has(r, (uint16_t)(r->window.base + i)) == present) {
-            printf(" %u", (unsigned)(uint16_t)(r->window.base + i));
+    for (i = 0; i < card.window.n; i++)
+        if (cgv_desk_how(&desk, &card, cgv_number(&card.window, i)) == how) {
+            printf(" %u", (unsigned)cgv_number(&card.window, i));
             count++;
         }
     printf(count ? " (%zu)\n" : " none\n", count);
 }
 
+/* A size of the command line: digits alone. */
+static size_t size_of(const char *word)
+{
+    char *end;
+    unsigned long value = strtoul(word, &end, 10);
+    if (*word < '0' || *word > '9' || *end) {
+        fprintf(stderr, "card: %s is not a number\n", word);
+        exit(2);
+    }
+    return value;
+}
+
 int main(int argc, char **argv)
 {
-    struct cgv_receiver card = {{0, 0, 0, 0, 0, 0, 0, 0, 0},
-                                {media, sizeof media, timestamps, POSITIONS, marks, POSITIONS, parity, sizeof parity, records, RECORDS}};
-    static uint8_t datagram[65536], dropped[POSITIONS];
-    size_t len, refused = 0, rebuilt = 0;
+    static uint8_t datagram[65536];
+    struct capture c = {argc > 1 ? argv[1] : "", NULL, 0, 0};
+    char line[CGV_COUNTERS_LINE];
+    size_t len, l, d, p;
+    uint16_t number;
     int kind, open = 0;
-    FILE *f = argc == 5 ? fopen(argv[1], "rb") : NULL;
-    if (!f) {
+    if (argc != 5) {
         fprintf(stderr, "usage: card FILE L D PAYLOAD\n");
         return 2;
     }
-    while ((kind = next_entry(f, datagram, sizeof datagram, &len)) != 0) {
-        struct cgv_answer a;
+    l = size_of(argv[2]), d = size_of(argv[3]), p = size_of(argv[4]);
+    c.file = fopen(c.name, "rb");
+    if (!c.file) {
+        fprintf(stderr, "card: %s: %s\n", c.name, strerror(errno));
+        return 1;
+    }
+    while ((kind = next_entry(&c, datagram, &len)) != 0) {
+        if (!open && (kind != 1 || !cgv_media_number(datagram, len, &number)))
+            continue; /* there is no window yet */
         if (!open) {
-            a = cgv_receiver_open(&card, number_of(datagram), strtoul(argv[2], 0, 10), strtoul(argv[3], 0, 10), strtoul(argv[4], 0, 10),
-                                  POSITIONS, RECORDS, 1);
+            struct cgv_answer a = cgv_receiver_open(&card, number, l, d, p, POSITIONS, RECORDS, 1);
             if (a.number) {
-                fprintf(stderr, "card: %s\n", cgv_message(a.number));
+                fprintf(stderr, "card: no window for L %zu, D %zu, payload %zu: %s\n", l, d, p, cgv_message(a.number));
                 return 1;
             }
+            cgv_desk_begin(&desk, &card);
             open = 1;
         }
-        if (kind == 1) {
-            size_t position = (uint16_t)(number_of(datagram) - card.window.base);
-            if (position < POSITIONS && lost(position)) {
-                dropped[position] = 1;
-                continue;
-            }
+        if (kind == 1 && cgv_media_number(datagram, len, &number) && cgv_position(&card.window, number) < POSITIONS &&
+            lost(cgv_position(&card.window, number)))
+            continue;
+        if (kind == 1)
+            cgv_desk_media(&desk, &card, datagram, len);
+        else if (kind == 2)
+            cgv_desk_column(&desk, &card, datagram, len);
+        else
+            cgv_desk_row(&desk, &card, datagram, len);
+        while (cgv_desk_rebuilt(&desk, &card, &number)) {
+            /* A card sends the packet on from here: P bytes at cgv_receiver_payload(&card, number). */
         }
-        a = kind == 1 ? cgv_receiver_media(&card, datagram, len)
-                      : kind == 2 ? cgv_receiver_column(&card, datagram, len) : cgv_receiver_row(&card, datagram, len);
-        rebuilt += a.count;
-        /* past the window, or rebuilt before it came: nothing to worry about */
-        refused += a.number != CGV_DONE && a.number != CGV_OUTSIDE && a.number != CGV_REPEAT;
     }
-    fclose(f);
-    printf("window from %u, %zu of %zu packets present, %zu rebuilt, %zu datagrams refused\n", (unsigned)card.window.base,
-           card.window.present, card.window.n, rebuilt, refused);
-    print_numbers(&card, "rebuilt", 1, dropped);
-    print_numbers(&card, "missing", 0, dropped);
+    fclose(c.file);
+    if (!open) {
+        fprintf(stderr, "card: %s: %s\n", c.name, c.entry == 1 ? "an empty file" : "no media packet in it");
+        return 1;
+    }
+    cgv_counters_line(&desk.counters, line, sizeof line);
+    printf("window from %u, %zu of %zu packets present\n%s\n", (unsigned)card.window.base, card.window.present, card.window.n, line);
+    print_numbers("recovered", CGV_HOW_REBUILT);
+    print_numbers("missing", CGV_HOW_NONE);
     return 0;
 }

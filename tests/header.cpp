@@ -1,13 +1,25 @@
-// The header compiles as C++, and links.
-#include "congaveil.h"
+// The headers compile as C++, and link.
+#include "congaveil_desk.h"
+
+static uint8_t media[16 * 188], marks[16], parity[188];
+static uint32_t timestamps[16];
+static cgv_record records[1];
+static cgv_receiver receiver = {CGV_NO_WINDOW, CGV_STORE_OF_ARRAYS(media, timestamps, marks, parity, records)};
+static cgv_desk desk;
 
 int main()
 {
-    struct cgv_receiver r = cgv_receiver();
-    uint8_t byte = 0;
-    uint32_t word = 0;
-    struct cgv_record record = cgv_record();
-    struct cgv_store store = {&byte, 0, &word, 0, &byte, 0, &byte, 0, &record, 0};
-    r.store = store;
-    return cgv_receiver_open(&r, 0, 4, 4, 188, 16, 1, 0).number == CGV_SHORT_BUFFER ? 0 : 1;
+    const uint8_t datagram[12] = {0x80, 33};
+    char line[CGV_COUNTERS_LINE];
+    uint16_t number = 0;
+    if (cgv_receiver_open(&receiver, 0, 4, 4, 188, 17, 1, 0).number != CGV_SHORT_BUFFER)
+        return 1;
+    if (cgv_receiver_open(&receiver, 0, 4, 4, 188, 16, 1, 0).number != CGV_DONE)
+        return 2;
+    cgv_desk_begin(&desk, &receiver);
+    if (cgv_desk_media(&desk, &receiver, datagram, sizeof datagram).number != CGV_BAD_LENGTH)
+        return 3;
+    if (cgv_desk_rebuilt(&desk, &receiver, &number) || cgv_receiver_payload(&receiver, 0))
+        return 4;
+    return cgv_counters_line(&desk.counters, line, sizeof line) == 0;
 }

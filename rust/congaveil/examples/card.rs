@@ -1,75 +1,120 @@
-//! A card in Rust: opens a window at the first packet of a capture, across the wrap of the sequence counter, feeds it the
-//! capture with losses, and prints what was rebuilt and what stays missing.
+//! A card in Rust: opens a window at the first media packet of a capture, feeds it the capture with losses, and prints what
+//! was recovered and what stays missing.
 //!
 //!     cargo run --example card -- FILE L D PAYLOAD
 //!
 //! A capture is a run of entries: one byte of kind (1 media, 2 column parity, 3 row parity), two bytes of length,
-//! big-endian, and the datagram. Lost here: packets 8 to 12, a burst of 16 from 40 on, and every 17th.
-use congaveil::{Receiver, Refusal, SetUp};
-use std::{env, error::Error, fs, process::ExitCode};
+//! big-endian, and the datagram. Lost here: positions 8 to 12, a burst of 16 from 40 on, and every 17th.
+//! Exits with 1 where the file is at fault or the window cannot be opened, with 2 where the arguments are.
+use congaveil::{media_number, Desk, How, Receiver, SetUp};
+use std::{env, fs, process::ExitCode};
 
-fn lost(position: u16) -> bool {
+const POSITIONS: usize = 200;
+const RECORDS: usize = 80;
+
+/// A capture that is being read: what is left of it, where that starts, and the number of the next entry from 1 on.
+struct Capture<'a> {
+    bytes: &'a [u8],
+    at: usize,
+    entry: usize,
+}
+
+impl<'a> Capture<'a> {
+    /// Kind and datagram of the next entry, nothing at the end, or the fault that it has.
+    fn next(&mut self) -> Result<Option<(u8, &'a [u8])>, String> {
+        let fault = |what| Err(format!("entry {}, at byte {}: {what}", self.entry, self.at));
+        let (kind, len) = match *self.bytes {
+            [] => return Ok(None),
+            [kind, high, low, ..] => (kind, usize::from(u16::from_be_bytes([high, low]))),
+            _ => return fault("cut inside its kind and length"),
+        };
+        if !(1..=3).contains(&kind) {
+            return fault("a kind that is not 1, 2 or 3");
+        }
+        let datagram = match self.bytes.get(3..3 + len) {
+            Some(datagram) => datagram,
+            None => return fault("cut inside its datagram"),
+        };
+        self.bytes = &self.bytes[3 + len..];
+        self.at += 3 + len;
+        self.entry += 1;
+        Ok(Some((kind, datagram)))
+    }
+}
+
+fn lost(position: usize) -> bool {
     (8..13).contains(&position) || (40..56).contains(&position) || position % 17 == 16
 }
 
-/// Kind and datagram of each entry of a capture.
-fn entries(mut bytes: &[u8]) -> impl Iterator<Item = (u8, &[u8])> {
-    std::iter::from_fn(move || {
-        let (&[kind, high, low], rest) = bytes.split_first_chunk()?;
-        let (datagram, rest) = rest.split_at_checked(u16::from_be_bytes([high, low]) as usize)?;
-        bytes = rest;
-        Some((kind, datagram))
-    })
-}
-
-fn number_of(datagram: &[u8]) -> u16 {
-    u16::from_be_bytes([datagram[2], datagram[3]])
-}
-
-fn print_numbers(what: &str, numbers: &[u16]) {
-    let words: Vec<String> = numbers.iter().map(u16::to_string).collect();
+fn print_numbers(what: &str, receiver: &Receiver, desk: &Desk, how: How) {
+    let numbers = (0..receiver.window().n).map(|i| receiver.window().base.wrapping_add(i as u16));
+    let words: Vec<String> = numbers.filter(|n| desk.how(receiver, *n) == how).map(|n| n.to_string()).collect();
     match words.len() {
         0 => println!("{what}: none"),
         count => println!("{what}: {} ({count})", words.join(" ")),
     }
 }
 
-fn card(file: &str, l: &str, d: &str, payload: &str) -> Result<(), Box<dyn Error>> {
-    let capture = fs::read(file)?;
-    let base = entries(&capture).next().map(|(_, datagram)| number_of(datagram)).ok_or("an empty capture")?;
-    let set_up = SetUp { base, l: l.parse()?, d: d.parse()?, payload: payload.parse()?, positions: 200, records: 80, ssrc: 1 };
-    let mut receiver = Receiver::open(set_up)?;
-    let (mut dropped, mut rebuilt, mut refused) = (Vec::new(), 0, 0);
-    for (kind, datagram) in entries(&capture) {
-        if kind == 1 && lost(number_of(datagram).wrapping_sub(base)) {
-            dropped.push(number_of(datagram));
-            continue;
-        }
-        let answer = match kind {
-            1 => receiver.media(datagram),
-            2 => receiver.column(datagram),
-            _ => receiver.row(datagram),
+fn card(file: &str, l: usize, d: usize, payload: usize) -> Result<(), String> {
+    let of_file = |what: String| format!("{file}: {what}");
+    let bytes = fs::read(file).map_err(|e| of_file(e.to_string()))?;
+    let mut capture = Capture { bytes: &bytes, at: 0, entry: 1 };
+    let mut desk = Desk::new();
+    let mut open: Option<Receiver> = None;
+    while let Some((kind, datagram)) = capture.next().map_err(of_file)? {
+        let number = if kind == 1 { media_number(datagram) } else { None };
+        let mut receiver = match (open.take(), number) {
+            (Some(receiver), _) => receiver,
+            (None, None) => continue, // there is no window yet
+            (None, Some(base)) => {
+                let set_up = SetUp { base, l, d, payload, positions: POSITIONS, records: RECORDS, ssrc: 1 };
+                let receiver = Receiver::open(set_up).map_err(|e| format!("no window for L {l}, D {d}, payload {payload}: {e}"))?;
+                desk.begin(&receiver);
+                receiver
+            }
         };
-        match answer {
-            Ok(count) => rebuilt += count,
-            Err(Refusal::Outside | Refusal::Repeat) => {} // past the window, or rebuilt before it came
-            Err(_) => refused += 1,
+        let position = number.map_or(POSITIONS, |number| receiver.position(number));
+        if position >= POSITIONS || !lost(position) {
+            // What is refused is counted by its number.
+            let _ = match kind {
+                1 => desk.media(&mut receiver, datagram),
+                2 => desk.column(&mut receiver, datagram),
+                _ => desk.row(&mut receiver, datagram),
+            };
+            for _packet in desk.rebuilt(&receiver) {
+                // A card sends the packet on from here: its number, timestamp and payload.
+            }
         }
+        open = Some(receiver);
     }
-    println!("window from {base}, {} of 200 packets present, {rebuilt} rebuilt, {refused} datagrams refused", receiver.present());
-    let (back, gone): (Vec<u16>, Vec<u16>) = dropped.iter().filter(|n| n.wrapping_sub(base) < 200).partition(|n| receiver.has(**n));
-    print_numbers("rebuilt", &back);
-    print_numbers("missing", &gone);
+    let receiver = open.ok_or_else(|| of_file(String::from(if bytes.is_empty() { "an empty file" } else { "no media packet in it" })))?;
+    let window = receiver.window();
+    println!("window from {}, {} of {} packets present\n{}", window.base, window.present, window.n, desk.counters());
+    print_numbers("recovered", &receiver, &desk, How::Rebuilt);
+    print_numbers("missing", &receiver, &desk, How::Missing);
     Ok(())
 }
 
 fn main() -> ExitCode {
     let args: Vec<String> = env::args().skip(1).collect();
-    let [file, l, d, payload] = &args[..] else {
-        eprintln!("usage: card FILE L D PAYLOAD");
-        return ExitCode::from(2);
+    let (file, sizes) = match args.split_first() {
+        Some((file, sizes)) if sizes.len() == 3 => (file, sizes),
+        _ => {
+            eprintln!("usage: card FILE L D PAYLOAD");
+            return ExitCode::from(2);
+        }
     };
-    match card(file, l, d, payload) {
+    let mut numbers = [0; 3];
+    for (number, word) in numbers.iter_mut().zip(sizes) {
+        match word.parse() {
+            Ok(value) => *number = value,
+            Err(_) => {
+                eprintln!("card: {word} is not a number");
+                return ExitCode::from(2);
+            }
+        }
+    }
+    match card(file, numbers[0], numbers[1], numbers[2]) {
         Ok(()) => ExitCode::SUCCESS,
         Err(e) => {
             eprintln!("card: {e}");

@@ -1,20 +1,33 @@
 //! The C face, as include/congaveil.h declares it. Every use of it is in `Receiver`.
 use crate::Record;
+use core::mem::size_of;
 
 /// A window value: what a window was opened with, and how many packets are present and records in use.
 #[repr(C)]
 #[derive(Clone, Copy, Debug, Default, PartialEq, Eq)]
 pub struct Window {
+    /// Sequence number of position 0.
     pub base: u16,
+    /// The SSRC of packets that are read out.
     pub ssrc: u32,
+    /// Columns of the parity matrix.
     pub l: usize,
+    /// Rows of the parity matrix.
     pub d: usize,
+    /// Payload bytes of every media packet.
     pub p: usize,
+    /// Positions.
     pub n: usize,
+    /// Records: room for parity packets in hand.
     pub k: usize,
+    /// Packets present.
     pub present: usize,
+    /// Records in use.
     pub in_use: usize,
 }
+
+// The layout that the library was compiled for; the order of the fields is the header's.
+const _: () = assert!(size_of::<usize>() == 8 && size_of::<Window>() == 64 && size_of::<Record>() == 8 && size_of::<Answer>() == 80);
 
 #[repr(C)]
 pub struct Answer {

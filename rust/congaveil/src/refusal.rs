@@ -1,31 +1,49 @@
 use crate::face;
-use std::{error::Error, fmt};
+use core::fmt;
 
 /// Why a call was refused: the first reason that applies, in this order. Its number is document 01's.
 #[derive(Clone, Copy, Debug, PartialEq, Eq, Hash)]
 #[repr(u32)]
 pub enum Refusal {
+    /// Not 1 ≤ L ≤ 20, 4 ≤ D ≤ 20, L × D ≤ 100.
     BadProfile = 1,
+    /// P not k × 188 or k × 204, k from 1 to 7.
     BadPayloadSize = 2,
+    /// Not L × D ≤ n ≤ 400, 1 ≤ K ≤ 128.
     BadRoom = 3,
+    /// A lent part or the output is shorter than its need.
     ShortBuffer = 4,
+    /// The store is not one that the calls left.
     Disorder = 5,
+    /// Under 12 bytes (media) or 28 (parity).
     ShortDatagram = 6,
+    /// Version not 2, or padding, extension, CSRC or marker set.
     BadRtpHeader = 7,
+    /// Not 33 (media) or 96 (parity).
     BadPayloadType = 8,
+    /// Payload part not exactly P bytes.
     BadLength = 9,
+    /// E not 1, or mask, X, type, index or SNBase ext not 0.
     BadFecHeader = 10,
+    /// PT or length recovery not the profile's.
     BadRecovery = 11,
+    /// Wrong port, Offset or NA, or a row where L < 4.
     BadShape = 12,
+    /// A number or a member of the group is not in the window. Routine.
     Outside = 13,
+    /// Already held, the same. Routine.
     Repeat = 14,
+    /// Already held, with a difference. On media, the alarm: what is marked present is not what arrived.
     Differs = 15,
+    /// Two or more are missing and every record is in use. Routine.
     Full = 16,
+    /// Reading a missing packet, or writing parity over one.
     Missing = 17,
 }
 
 impl Refusal {
     /// The number of the refusal, 1 to 17.
+    #[must_use]
     pub fn number(self) -> u32 {
         self as u32
     }
@@ -79,4 +97,5 @@ impl fmt::Display for Refusal {
     }
 }
 
-impl Error for Refusal {}
+#[cfg(feature = "std")]
+impl std::error::Error for Refusal {}

@@ -1,4 +1,7 @@
+#[cfg(feature = "std")]
 use crate::SetUp;
+#[cfg(feature = "std")]
+use std::{vec, vec::Vec};
 
 /// A parity packet in hand; its payload stands at the same index of the parity part.
 #[repr(C)]
@@ -8,17 +11,24 @@ pub struct Record {
     pub stream: u8,
     /// 1, or 0 where the record is free.
     pub in_use: u8,
+    /// The first number of its group.
     pub snbase: u16,
+    /// The exclusive-or of the group's timestamps.
     pub timestamp_recovery: u32,
 }
 
 /// A store that is lent: n × P bytes of media, n timestamps, n marks, K × P bytes of parity and K records, or more.
 #[derive(Debug)]
 pub struct Lent<'a> {
+    /// The payload of position i stands at i × P.
     pub media: &'a mut [u8],
+    /// The RTP timestamps of the positions.
     pub timestamps: &'a mut [u32],
+    /// 1 where the packet of a position is present, 0 where it is missing.
     pub marks: &'a mut [u8],
+    /// The payload of record j stands at j × P.
     pub parity: &'a mut [u8],
+    /// The parity packets in hand.
     pub records: &'a mut [Record],
 }
 
@@ -33,6 +43,7 @@ pub struct Shown<'a> {
 }
 
 /// A store of its own.
+#[cfg(feature = "std")]
 #[derive(Clone, Debug, Default, PartialEq, Eq)]
 pub struct Owned {
     media: Vec<u8>,
@@ -42,6 +53,7 @@ pub struct Owned {
     records: Vec<Record>,
 }
 
+#[cfg(feature = "std")]
 impl Owned {
     /// As much as a window of this set-up needs, which is permitted: at most 400 × 1,428 and 128 × 1,428 bytes.
     pub(crate) fn of(set_up: &SetUp) -> Self {
@@ -58,11 +70,12 @@ impl Owned {
 
 mod sealed {
     pub trait Sealed {}
+    #[cfg(feature = "std")]
     impl Sealed for super::Owned {}
     impl Sealed for super::Lent<'_> {}
 }
 
-/// What a receiver is kept in. Only [`Owned`] and [`Lent`] are stores: a receiver counts on the same parts at every call.
+/// What a receiver is kept in. Only `Owned` and [`Lent`] are stores: a receiver counts on the same parts at every call.
 pub trait Store: sealed::Sealed {
     #[doc(hidden)]
     fn lent(&mut self) -> Lent<'_>;
@@ -70,6 +83,7 @@ pub trait Store: sealed::Sealed {
     fn shown(&self) -> Shown<'_>;
 }
 
+#[cfg(feature = "std")]
 impl Store for Owned {
     fn lent(&mut self) -> Lent<'_> {
         Lent {

@@ -1,0 +1,335 @@
+use crate::{face, Refusal, Store, Window};
+#[cfg(feature = "std")]
+use crate::{Owned, MEDIA_HEADER, PAYLOAD_MAX};
+#[cfg(feature = "std")]
+use std::vec::Vec;
+
+/// What a window is opened with.
+#[derive(Clone, Copy, Debug, PartialEq, Eq)]
+pub struct SetUp {
+    /// Sequence number of position 0: any.
+    pub base: u16,
+    /// Columns of the parity matrix, 1 to 20. Rows carry parity only where this is 4 or more.
+    pub l: usize,
+    /// Rows of the parity matrix, 4 to 20; l × d is at most 100.
+    pub d: usize,
+    /// Payload bytes of every media packet: 1 to 7 transport packets of 188 or of 204 bytes.
+    pub payload: usize,
+    /// Positions, l × d to 400.
+    pub positions: usize,
+    /// Room for parity packets in hand, 1 to 128.
+    pub records: usize,
+    /// The SSRC of packets that are read out.
+    pub ssrc: u32,
+}
+
+/// The header fields of a parity packet that are the sender's own.
+#[derive(Clone, Copy, Debug, Default, PartialEq, Eq)]
+pub struct Outer {
+    /// The RTP sequence number.
+    pub sequence: u16,
+    /// The RTP timestamp.
+    pub timestamp: u32,
+    /// The SSRC of the parity stream.
+    pub ssrc: u32,
+}
+
+/// A packet that is present, where it lies in the store.
+#[derive(Clone, Copy, Debug, PartialEq, Eq)]
+pub struct Packet<'a> {
+    /// Its sequence number.
+    pub number: u16,
+    /// Its RTP timestamp.
+    pub timestamp: u32,
+    /// Its payload.
+    pub payload: &'a [u8],
+}
+
+/// A window over consecutive packets, and the store that it is kept in: its own ([`Owned`]) or a lent one
+/// ([`Lent`](crate::Lent)).
+#[cfg(feature = "std")]
+#[derive(Clone, Debug)]
+pub struct Receiver<S: Store = Owned> {
+    window: Window,
+    store: S,
+}
+
+/// A window over consecutive packets, and the store that it is kept in, a lent one ([`Lent`](crate::Lent)).
+#[cfg(not(feature = "std"))]
+#[derive(Clone, Debug)]
+pub struct Receiver<S: Store> {
+    window: Window,
+    store: S,
+}
+
+#[cfg(feature = "std")]
+impl Receiver<Owned> {
+    /// Opens a window with a store of its own.
+    ///
+    /// # Errors
+    ///
+    /// Refusals 1 to 3, for a set-up that is not permitted.
+    pub fn open(set_up: SetUp) -> Result<Self, Refusal> {
+        // An empty store is refused by number 4, after 1 to 3: so nothing is made for a set-up that is not permitted.
+        match Receiver::open_in(set_up, Owned::default()) {
+            Err(Refusal::ShortBuffer) => Receiver::open_in(set_up, Owned::of(&set_up)),
+            other => other,
+        }
+    }
+}
+
+impl<S: Store> Receiver<S> {
+    /// Opens a window in a store, which may be larger than it needs; what is past the need is never touched.
+    ///
+    /// # Errors
+    ///
+    /// Refusals 1 to 3 for a set-up that is not permitted, and 4 for a store that is too short.
+    pub fn open_in(set_up: SetUp, mut store: S) -> Result<Self, Refusal> {
+        let SetUp { base, l, d, payload: p, positions: n, records: k, ssrc } = set_up;
+        let s = store.lent();
+        // SAFETY: the parts are borrowed slices, so valid for their lengths and apart from each other, until it returns.
+        let answer = unsafe {
+            face::cgv_open(
+                base,
+                l,
+                d,
+                p,
+                n,
+                k,
+                ssrc,
+                s.media.as_mut_ptr(),
+                s.media.len(),
+                s.timestamps.as_mut_ptr(),
+                s.timestamps.len(),
+                s.marks.as_mut_ptr(),
+                s.marks.len(),
+                s.parity.as_mut_ptr(),
+                s.parity.len(),
+                s.records.as_mut_ptr(),
+                s.records.len(),
+            )
+        };
+        Refusal::check(&answer)?;
+        Ok(Receiver { window: answer.window, store })
+    }
+
+    /// Offers a datagram of the media port. Answers how many packets were rebuilt.
+    ///
+    /// # Errors
+    ///
+    /// Refusals 1 to 9 and 13 to 15. On media, 15 ([`Refusal::Differs`]) is the alarm.
+    pub fn media(&mut self, datagram: &[u8]) -> Result<usize, Refusal> {
+        self.offer(face::cgv_media, datagram)
+    }
+
+    /// Offers a datagram of the column parity port. Answers how many packets were rebuilt.
+    ///
+    /// # Errors
+    ///
+    /// Refusals 1 to 16.
+    pub fn column(&mut self, datagram: &[u8]) -> Result<usize, Refusal> {
+        self.offer(face::cgv_column, datagram)
+    }
+
+    /// Offers a datagram of the row parity port. Answers how many packets were rebuilt.
+    ///
+    /// # Errors
+    ///
+    /// Refusals 1 to 16.
+    pub fn row(&mut self, datagram: &[u8]) -> Result<usize, Refusal> {
+        self.offer(face::cgv_row, datagram)
+    }
+
+    /// Writes the packet of a number as a datagram, [`MEDIA_HEADER`](crate::MEDIA_HEADER) + payload bytes. Answers how many bytes.
+    ///
+    /// # Errors
+    ///
+    /// Refusals 1 to 5, 13 and 17.
+    pub fn read(&self, number: u16, out: &mut [u8]) -> Result<usize, Refusal> {
+        let s = self.store.shown();
+        // SAFETY: as in `open_in`; the store is borrowed shared, and the call only reads it.
+        let answer = unsafe {
+            face::cgv_read(
+                self.window,
+                number,
+                s.media.as_ptr(),
+                s.media.len(),
+                s.timestamps.as_ptr(),
+                s.timestamps.len(),
+                s.marks.as_ptr(),
+                s.marks.len(),
+                s.parity.as_ptr(),
+                s.parity.len(),
+                s.records.as_ptr(),
+                s.records.len(),
+                out.as_mut_ptr(),
+                out.len(),
+            )
+        };
+        Refusal::check(&answer)
+    }
+
+    /// Writes the parity datagram of the column that starts at a number, [`PARITY_HEADER`](crate::PARITY_HEADER) + payload bytes. Answers how many bytes.
+    ///
+    /// # Errors
+    ///
+    /// Refusals 1 to 5, 13 and 17.
+    pub fn write_column(&self, snbase: u16, outer: Outer, out: &mut [u8]) -> Result<usize, Refusal> {
+        self.write(face::cgv_write_column, snbase, outer, out)
+    }
+
+    /// Writes the parity datagram of the row that starts at a number, [`PARITY_HEADER`](crate::PARITY_HEADER) + payload bytes. Answers how many bytes.
+    ///
+    /// # Errors
+    ///
+    /// Refusals 1 to 5, 12 where L < 4, 13 and 17.
+    pub fn write_row(&self, snbase: u16, outer: Outer, out: &mut [u8]) -> Result<usize, Refusal> {
+        self.write(face::cgv_write_row, snbase, outer, out)
+    }
+
+    /// The window value: base, n, P and what else the window was opened with.
+    #[must_use]
+    pub fn window(&self) -> &Window {
+        &self.window
+    }
+
+    /// The position of a number: its distance ahead of the base, counted with wrap. It is in the window where that is below n.
+    #[must_use]
+    pub fn position(&self, number: u16) -> usize {
+        usize::from(number.wrapping_sub(self.window.base))
+    }
+
+    /// Whether a number is in the window and its packet present.
+    #[must_use]
+    pub fn has(&self, number: u16) -> bool {
+        self.marked(self.position(number))
+    }
+
+    /// The payload of a number where it lies in the store, or `None` where its packet is missing or not of the window.
+    #[must_use]
+    pub fn payload(&self, number: u16) -> Option<&[u8]> {
+        self.packet_at(self.position(number)).map(|packet| packet.payload)
+    }
+
+    /// The packets that are present, in order of position.
+    pub fn packets(&self) -> impl Iterator<Item = Packet<'_>> + '_ {
+        (0..self.store.shown().marks.len().min(self.window.n)).filter_map(move |position| self.packet_at(position))
+    }
+
+    /// The numbers of the window whose packets are missing, in order.
+    pub fn missing(&self) -> impl Iterator<Item = u16> + '_ {
+        let base = self.window.base;
+        let marks = self.store.shown().marks.iter().take(self.window.n);
+        marks.enumerate().filter(|(_, mark)| **mark == 0).map(move |(i, _)| base.wrapping_add(i as u16))
+    }
+
+    /// How many packets are present.
+    #[must_use]
+    pub fn present(&self) -> usize {
+        self.window.present
+    }
+
+    /// How many parity packets are in hand.
+    #[must_use]
+    pub fn in_hand(&self) -> usize {
+        self.window.in_use
+    }
+
+    /// The window value and the store, apart.
+    #[must_use]
+    pub fn into_parts(self) -> (Window, S) {
+        (self.window, self.store)
+    }
+
+    /// A window value and a store put together again. The next call judges them: a value that was made up, a store that is
+    /// too short or that was changed meanwhile, meets its refusal (1 to 5).
+    #[must_use]
+    pub fn from_parts(window: Window, store: S) -> Self {
+        Receiver { window, store }
+    }
+
+    /// Whether a position is in the window and its packet present.
+    pub(crate) fn marked(&self, position: usize) -> bool {
+        position < self.window.n && self.store.shown().marks.get(position) == Some(&1)
+    }
+
+    /// The packet of a position, if it is present. A window value that was made up may name any size.
+    pub(crate) fn packet_at(&self, position: usize) -> Option<Packet<'_>> {
+        if !self.marked(position) {
+            return None;
+        }
+        let s = self.store.shown();
+        let start = position.checked_mul(self.window.p)?;
+        Some(Packet {
+            number: self.window.base.wrapping_add(position as u16),
+            timestamp: *s.timestamps.get(position)?,
+            payload: s.media.get(start..start.checked_add(self.window.p)?)?,
+        })
+    }
+
+    fn offer(&mut self, call: face::Offer, datagram: &[u8]) -> Result<usize, Refusal> {
+        let s = self.store.lent();
+        // SAFETY: as in `open_in`; the datagram is borrowed apart from the store.
+        let answer = unsafe {
+            call(
+                self.window,
+                datagram.as_ptr(),
+                datagram.len(),
+                s.media.as_mut_ptr(),
+                s.media.len(),
+                s.timestamps.as_mut_ptr(),
+                s.timestamps.len(),
+                s.marks.as_mut_ptr(),
+                s.marks.len(),
+                s.parity.as_mut_ptr(),
+                s.parity.len(),
+                s.records.as_mut_ptr(),
+                s.records.len(),
+            )
+        };
+        self.window = answer.window;
+        Refusal::check(&answer)
+    }
+
+    fn write(&self, call: face::Write, snbase: u16, outer: Outer, out: &mut [u8]) -> Result<usize, Refusal> {
+        let s = self.store.shown();
+        // SAFETY: as in `read`.
+        let answer = unsafe {
+            call(
+                self.window,
+                snbase,
+                outer.sequence,
+                outer.timestamp,
+                outer.ssrc,
+                s.media.as_ptr(),
+                s.media.len(),
+                s.timestamps.as_ptr(),
+                s.timestamps.len(),
+                s.marks.as_ptr(),
+                s.marks.len(),
+                s.parity.as_ptr(),
+                s.parity.len(),
+                s.records.as_ptr(),
+                s.records.len(),
+                out.as_mut_ptr(),
+                out.len(),
+            )
+        };
+        Refusal::check(&answer)
+    }
+}
+
+#[cfg(feature = "std")]
+impl<S: Store> Receiver<S> {
+    /// The packet of a number, as a datagram.
+    ///
+    /// # Errors
+    ///
+    /// Refusals 1 to 5, 13 and 17.
+    pub fn packet(&self, number: u16) -> Result<Vec<u8>, Refusal> {
+        // The call is asked first, with room for the largest packet: a window value that was made up may name any size.
+        let mut out = [0; MEDIA_HEADER + PAYLOAD_MAX];
+        let len = self.read(number, &mut out)?;
+        Ok(out.iter().take(len).copied().collect())
+    }
+}

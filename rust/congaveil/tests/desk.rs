@@ -1,0 +1,178 @@
+//! The desk: which packets were rebuilt, and the counters, over a capture of GStreamer without a loss and over packets made
+//! here; and what is read where it lies in the store.
+use congaveil::{media_number, parity_snbase, Counters, Desk, How, Lent, Packet, Receiver, Record, Refusal, SetUp, Window};
+
+const BASE: u16 = 65_530;
+const SET_UP: SetUp = SetUp { base: BASE, l: 4, d: 4, payload: 188, positions: 16, records: 8, ssrc: 7 };
+
+fn at(position: u16) -> u16 {
+    BASE.wrapping_add(position)
+}
+
+/// A packet whose payload is one byte over and over, so that parity is the exclusive-or of these.
+fn media(number: u16, byte: u8) -> Vec<u8> {
+    let mut g = vec![0x80, 33, (number >> 8) as u8, number as u8, 0, 0, 0, 9, 0, 0, 0, 0];
+    g.resize(200, byte);
+    g
+}
+
+fn byte_of(number: u16) -> u8 {
+    (number as u8).wrapping_mul(7).wrapping_add(1)
+}
+
+fn parity(row: bool, start: u16) -> Vec<u8> {
+    let offset = if row { 1 } else { 4 };
+    let sum = (0..4).fold(0, |sum, j| sum ^ byte_of(start.wrapping_add(j * offset)));
+    let mut g = vec![0; 28];
+    g[..2].copy_from_slice(&[0x80, 96]);
+    g[12..14].copy_from_slice(&start.to_be_bytes());
+    g[16] = 0x80;
+    g[24..27].copy_from_slice(&[if row { 0x40 } else { 0 }, offset as u8, 4]);
+    g.resize(216, sum);
+    g
+}
+
+fn numbers(desk: &mut Desk, receiver: &Receiver) -> Vec<u16> {
+    desk.rebuilt(receiver).map(|packet| packet.number).collect()
+}
+
+/// GStreamer sends a row's parity before the row's last packet: nothing is lost, and still packets are rebuilt, each refused
+/// with 14 when it arrives. None of them is recovered.
+#[test]
+fn without_a_loss() {
+    let mut capture: &[u8] = include_bytes!("../../../captures/gst_4x4_k4.cap");
+    let base = media_number(&capture[3..]).unwrap();
+    let mut r = Receiver::open(SetUp { base, payload: 752, positions: 400, records: 128, ..SET_UP }).unwrap();
+    let (mut desk, mut offered, mut told) = (Desk::new(), 0, 0);
+    desk.begin(&r);
+    while !capture.is_empty() {
+        let len = usize::from(u16::from_be_bytes([capture[1], capture[2]]));
+        let datagram = &capture[3..3 + len];
+        let _ = match capture[0] {
+            1 => {
+                offered += 1;
+                desk.media(&mut r, datagram)
+            }
+            2 => desk.column(&mut r, datagram),
+            _ => desk.row(&mut r, datagram),
+        };
+        told += desk.rebuilt(&r).filter(|packet| r.payload(packet.number) == Some(packet.payload)).count() as u64;
+        capture = &capture[3 + len..];
+    }
+    let c = desk.counters();
+    assert!(told > 0);
+    assert_eq!((c.rebuilt, c.late, c.recovered()), (told, told, 0));
+    assert_eq!((c.refused_with(Refusal::Repeat), c.refused(), c.alarms), (told, told, 0));
+    assert_eq!((c.received, c.missing(), r.present() as u64), (offered, 400 - offered, offered));
+}
+
+/// Case 11 of the bench with a desk: four lost, three rebuilt at a stroke; then late ones, a repeat, and the alarm.
+#[test]
+fn at_a_stroke() {
+    let mut r = Receiver::open(SET_UP).unwrap();
+    let mut desk = Desk::default();
+    desk.begin(&r);
+    for i in (0..16).filter(|i| ![0, 1, 4, 5].contains(i)) {
+        assert_eq!(desk.media(&mut r, &media(at(i), byte_of(at(i)))), Ok(0));
+    }
+    for i in 0..2 {
+        assert_eq!(desk.column(&mut r, &parity(false, at(i))), Ok(0));
+        assert_eq!(desk.row(&mut r, &parity(true, at(4 * i))), Ok(0));
+    }
+    assert_eq!((desk.counters().answers[0], numbers(&mut desk, &r)), (16, vec![]));
+    assert_eq!(desk.media(&mut r, &media(at(5), byte_of(at(5)))), Ok(3));
+    assert_eq!(desk.how(&r, at(1)), How::Rebuilt);
+    let payload = [byte_of(at(0)); 188];
+    assert_eq!(desk.rebuilt(&r).next(), Some(Packet { number: at(0), timestamp: 9, payload: &payload }));
+    assert_eq!(desk.media(&mut r, &media(at(1), byte_of(at(1)))), Err(Refusal::Repeat)); // before it is told
+    assert_eq!(numbers(&mut desk, &r), [at(4)]);
+    assert_eq!(numbers(&mut desk, &r), []);
+    assert_eq!((desk.counters().rebuilt, desk.counters().late, desk.counters().recovered()), (3, 1, 2));
+    for again in [1, 3] {
+        assert_eq!(desk.media(&mut r, &media(at(again), byte_of(at(again)))), Err(Refusal::Repeat));
+        assert_eq!((desk.counters().late, desk.counters().received), (1, 14));
+    }
+    assert_eq!(desk.media(&mut r, &media(at(0), 0)), Err(Refusal::Differs));
+    assert_eq!((desk.counters().alarms, desk.counters().late), (1, 2));
+    assert_eq!(desk.media(&mut r, &media(at(3), 0)), Err(Refusal::Differs));
+    assert_eq!(desk.column(&mut r, &parity(false, at(5))), Err(Refusal::Outside));
+    assert_eq!(desk.media(&mut r, &[0; 11]), Err(Refusal::ShortDatagram));
+    let how = |position| desk.how(&r, at(position));
+    assert_eq!([how(0), how(3), how(4), how(16)], [How::Late, How::Arrived, How::Rebuilt, How::Missing]);
+    let line = "received 15, recovered 1, late 2, missing 0, alarms 2, refused 7 (no. 6: 1, no. 13: 1, no. 14: 3, no. 15: 2)";
+    assert_eq!(desk.counters().to_string(), line);
+    let mut sum = *desk.counters();
+    sum += *desk.counters();
+    assert_eq!((sum.positions, sum.received, sum.rebuilt, sum.late, sum.alarms, sum.answers[14]), (32, 30, 6, 4, 4, 6));
+    let r = Receiver::open(SET_UP).unwrap(); // the next window: the counters go on
+    desk.begin(&r);
+    assert_eq!((numbers(&mut desk, &r), desk.counters().missing()), (vec![], 16));
+    assert_eq!(Counters::default().to_string(), "received 0, recovered 0, late 0, missing 0, alarms 0, refused 0");
+}
+
+/// What is read where it lies, and the numbers of a datagram for routing.
+#[test]
+fn in_place() {
+    let mut r = Receiver::open(SET_UP).unwrap();
+    assert_eq!(r.packets().next(), None);
+    for i in [8, 2] {
+        r.media(&media(at(i), i as u8)).unwrap();
+    }
+    assert_eq!(r.payload(at(8)), Some(&[8; 188][..]));
+    assert_eq!((r.payload(at(3)), r.payload(at(16)), r.payload(BASE.wrapping_sub(1))), (None, None, None));
+    let found: Vec<(u16, u32, u8)> = r.packets().map(|p| (p.number, p.timestamp, p.payload[187])).collect();
+    assert_eq!(found, [(at(2), 9, 2), (at(8), 9, 8)]);
+    assert_eq!((r.window().base, r.window().n, r.window().p, r.position(at(8)), r.position(BASE - 1)), (BASE, 16, 188, 8, 65_535));
+    let g = media(0x1234, 0);
+    assert_eq!((media_number(&g[..11]), media_number(&g[..12])), (None, Some(0x1234)));
+    let g = parity(true, 0x1234);
+    assert_eq!((parity_snbase(&g[..27]), parity_snbase(&g[..28])), (None, Some(0x1234)));
+}
+
+/// Windows that were made up, and counters at their edge: nothing panics and every walk ends.
+#[test]
+fn made_up() {
+    let sizes = [0, 1, 15, 16, 17, 399, 400, 401, 65_536, 1 << 46, usize::MAX];
+    for n in sizes {
+        for p in sizes {
+            let (mut media_part, mut timestamps, mut marks) = (vec![1; 16 * 188], [1; 15], [1; 16]);
+            let (mut parity_part, mut records) = ([1; 8 * 188], [Record::default(); 8]);
+            let lent = Lent {
+                media: &mut media_part,
+                timestamps: &mut timestamps,
+                marks: &mut marks,
+                parity: &mut parity_part,
+                records: &mut records,
+            };
+            let window = Window { base: BASE, ssrc: 0, l: 4, d: 4, p, n, k: 8, present: usize::MAX, in_use: usize::MAX };
+            let mut r = Receiver::from_parts(window, lent);
+            let mut desk = Desk::new();
+            desk.begin(&r);
+            assert!(desk.media(&mut r, &media(BASE, 1)).is_err());
+            assert!(r.packets().count() <= 16);
+            for number in 0..=u16::MAX {
+                let _ = (r.payload(number), desk.how(&r, number));
+            }
+            assert_eq!(desk.rebuilt(&r).count(), 0);
+        }
+    }
+    let most = u64::MAX;
+    let mut c = Counters { positions: most, received: most, rebuilt: most, late: most, alarms: most, answers: [most; 18] };
+    c += c;
+    assert_eq!((c.recovered(), c.missing(), c.positions), (0, 0, most - 1));
+    assert!(c.to_string().len() < 768); // the room that the C header names
+}
+
+/// A desk that was begun with one window and is asked about another, which has packets marked that it never saw.
+#[test]
+fn another_window() {
+    let mut r = Receiver::open(SET_UP).unwrap();
+    let mut desk = Desk::new();
+    desk.begin(&r);
+    for i in (0..16).filter(|i| *i != 3) {
+        desk.media(&mut r, &media(at(i), byte_of(at(i)))).unwrap();
+    }
+    assert_eq!(desk.row(&mut r, &parity(true, at(0))), Ok(1));
+    let other = Receiver::open(SetUp { l: 1, positions: 4, ..SET_UP }).unwrap();
+    assert_eq!(numbers(&mut desk, &other), []);
+}
