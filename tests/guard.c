@@ -1,0 +1,545 @@
+/* An attack on the C face. Every buffer has exactly its size and lies against a page without access, at its end or at its start;
+ * a call that must not write gets the store, and a refused one the output too, through a mapping that can only be read; the
+ * datagram can always only be read. What the library reads or writes past a length, or writes where it must not, ends the run.
+ * Some lengths claim more than there is: what is past the need must never be touched.
+ *
+ * Each call is made twice, over plain memory first: answer and every byte must be the same wherever the buffers lie. The second
+ * one runs on a painted stack, so that the stack that a call needs is known.
+ *
+ *     guard                  1,000,000 calls, seed 1: part of the gate
+ *     guard SECONDS SEED     for as long as one likes
+ *
+ * Compiled with -DFUZZ it is a target for libFuzzer, which draws the same attack from the bytes that it is given. */
+#define _GNU_SOURCE
+#include "congaveil_desk.h"
+#include <signal.h>
+#include <stdio.h>
+#include <stdlib.h>
+#include <string.h>
+#include <sys/mman.h>
+#include <time.h>
+#include <ucontext.h>
+#include <unistd.h>
+
+enum { PAGE = 4096, MOST = 140 * PAGE, CLAIM = 1000, STACK = 64 * 1024, STACK_MAX = 9 * 1024 };
+enum { OPEN, MEDIA, COLUMN, ROW, READ, WRITE_COLUMN, WRITE_ROW, KINDS };
+static const char *const names[KINDS] = {"cgv_open", "cgv_media", "cgv_column", "cgv_row", "cgv_read", "cgv_write_column", "cgv_write_row"};
+
+static unsigned long long calls, windows, seed, numbers[CGV_NUMBERS], helpers, claims;
+static const char *doing = "setting up";
+
+static void fail(const char *what)
+{
+    fprintf(stderr, "guard: %s, in %s, call %llu of seed %llu\n", what, doing, calls, seed);
+    abort();
+}
+
+/* ---- where the attack is drawn from: seeded random numbers, or the fuzzer's bytes */
+
+#ifdef FUZZ
+static const uint8_t *bytes;
+static size_t left;
+__attribute__((section("__libfuzzer_extra_counters"))) static uint8_t met[KINDS * CGV_NUMBERS * 8];
+
+static uint64_t draw(uint64_t below)
+{
+    uint64_t value = 0;
+    int i;
+    for (i = 0; i < (below > 256 ? 2 : 1) && left; i++, left--)
+        value = value << 8 | *bytes++;
+    return value % below;
+}
+#else
+static uint64_t state;
+
+static uint64_t draw(uint64_t below)
+{
+    uint64_t z = state += 0x9e3779b97f4a7c15u;
+    z = (z ^ z >> 30) * 0xbf58476d1ce4e5b9u;
+    z = (z ^ z >> 27) * 0x94d049bb133111ebu;
+    return (z ^ z >> 31) % below;
+}
+#endif
+
+static int one_in(uint64_t n) { return draw(n) == 0; }
+
+/* ---- buffers between pages without access, each in two mappings of the same memory and once more in plain memory */
+
+struct part {
+    int fd;
+    uint8_t *view[2], *at[2]; /* [0] can be written, [1] can only be read */
+    uint8_t *plain;
+    size_t size, slack;
+    int at_end;
+};
+
+enum { P_MEDIA, P_TIMESTAMPS, P_MARKS, P_PARITY, P_RECORDS, P_DATAGRAM, P_OUT, PARTS, STORE = 5 };
+static struct part parts[PARTS];
+
+static void make_parts(void)
+{
+    int i, v;
+    for (i = 0; i < PARTS; i++) {
+        parts[i].fd = memfd_create("guard", 0);
+        parts[i].plain = malloc(MOST + CLAIM * sizeof(struct cgv_record));
+        if (parts[i].fd < 0 || ftruncate(parts[i].fd, MOST) || !parts[i].plain)
+            fail("no memory");
+        for (v = 0; v < 2; v++) {
+            parts[i].view[v] = mmap(NULL, MOST + 2 * PAGE, PROT_NONE, MAP_PRIVATE | MAP_ANONYMOUS, -1, 0);
+            if (parts[i].view[v] == MAP_FAILED)
+                fail("no memory");
+        }
+    }
+}
+
+/* Lays a buffer of this size against a page without access; old bytes stand in it. */
+static void place(struct part *b, size_t size, int at_end)
+{
+    size_t pages = (size + PAGE - 1) / PAGE * PAGE;
+    int v;
+    for (v = 0; v < 2; v++) {
+        uint8_t *first = b->view[v] + PAGE;
+        if (pages == b->size + b->slack) { /* the same pages again */
+            b->at[v] = at_end ? first + pages - size : first;
+            continue;
+        }
+        if (mmap(b->view[v], MOST + 2 * PAGE, PROT_NONE, MAP_PRIVATE | MAP_ANONYMOUS | MAP_FIXED, -1, 0) == MAP_FAILED)
+            fail("no memory");
+        if (pages && mmap(first, pages, v ? PROT_READ : PROT_READ | PROT_WRITE, MAP_SHARED | MAP_FIXED, b->fd, 0) == MAP_FAILED)
+            fail("no memory");
+        b->at[v] = at_end ? first + pages - size : first;
+    }
+    b->size = size;
+    b->slack = pages - size;
+    b->at_end = at_end;
+    if (pages)
+        memset(b->view[0] + PAGE, 0xC3, pages);
+    memset(b->at[0], 0xA5, size);
+    memset(b->plain, 0xA5, size);
+}
+
+static void same_as_plain(const struct part *b)
+{
+    const uint8_t *slack = b->at_end ? b->view[0] + PAGE : b->at[0] + b->size;
+    size_t i;
+    if (memcmp(b->at[0], b->plain, b->size))
+        fail("other bytes than in plain memory");
+    for (i = 0; i < b->slack; i++)
+        if (slack[i] != 0xC3)
+            fail("a byte beside a buffer was written");
+}
+
+/* ---- a call, on a painted stack */
+
+struct call {
+    int kind;
+    struct cgv_window w; /* or the set-up, for an opening */
+    struct cgv_store s;
+    const uint8_t *datagram;
+    size_t len;
+    uint16_t number;
+    uint8_t *out;
+    size_t out_len;
+    struct cgv_answer a;
+};
+
+static void make(struct call *c)
+{
+    struct cgv_window w = c->w;
+    switch (c->kind) {
+    case OPEN: c->a = cgv_open(w.base, w.l, w.d, w.p, w.n, w.k, w.ssrc, CGV_STORE_ARGUMENTS(c->s)); break;
+    case MEDIA: c->a = cgv_media(w, c->datagram, c->len, CGV_STORE_ARGUMENTS(c->s)); break;
+    case COLUMN: c->a = cgv_column(w, c->datagram, c->len, CGV_STORE_ARGUMENTS(c->s)); break;
+    case ROW: c->a = cgv_row(w, c->datagram, c->len, CGV_STORE_ARGUMENTS(c->s)); break;
+    case READ: c->a = cgv_read(w, c->number, CGV_STORE_ARGUMENTS(c->s), c->out, c->out_len); break;
+    case WRITE_COLUMN: c->a = cgv_write_column(w, c->number, 1, 2, 3, CGV_STORE_ARGUMENTS(c->s), c->out, c->out_len); break;
+    default: c->a = cgv_write_row(w, c->number, 1, 2, 3, CGV_STORE_ARGUMENTS(c->s), c->out, c->out_len); break;
+    }
+}
+
+#ifdef FUZZ
+static void make_on_stack(struct call *c) { make(c); }
+#else
+static uint8_t stack[STACK] __attribute__((aligned(16)));
+static ucontext_t here, there;
+static struct call *current;
+static uint8_t *top;
+
+static void work(void)
+{
+    top = __builtin_frame_address(0);
+    for (;;) {
+        make(current);
+        swapcontext(&there, &here);
+    }
+}
+
+static void make_on_stack(struct call *c)
+{
+    current = c;
+    swapcontext(&here, &there);
+}
+
+static void paint_stack(void)
+{
+    memset(stack, 0xB7, sizeof stack);
+    if (getcontext(&there))
+        fail("no context");
+    there.uc_stack.ss_sp = stack;
+    there.uc_stack.ss_size = sizeof stack;
+    there.uc_link = NULL;
+    makecontext(&there, work, 0);
+}
+
+static size_t stack_used(void)
+{
+    size_t i = 0;
+    while (i < sizeof stack && stack[i] == 0xB7)
+        i++;
+    return (size_t)(top - (stack + i));
+}
+
+static void faulted(int signal, siginfo_t *info, void *context)
+{
+    (void)signal, (void)context;
+    fprintf(stderr, "guard: touched %p, which it must not, in %s, call %llu of seed %llu\n", info->si_addr, doing, calls, seed);
+    _exit(1);
+}
+#endif
+
+/* ---- a window under attack */
+
+static struct cgv_window w;
+static struct cgv_desk desk;
+static size_t lengths[STORE], honest[STORE]; /* as lent and as there are, in elements */
+
+/* The store as it is lent, in a mapping (0 to write, 1 to read alone) or in plain memory (2). */
+static struct cgv_store store_in(int view, const size_t *len)
+{
+    uint8_t *at[STORE];
+    int i;
+    for (i = 0; i < STORE; i++)
+        at[i] = view == 2 ? parts[i].plain : parts[i].at[view];
+    {
+        struct cgv_store s = {at[P_MEDIA], len[P_MEDIA], (uint32_t *)(void *)at[P_TIMESTAMPS], len[P_TIMESTAMPS],
+                              at[P_MARKS], len[P_MARKS], at[P_PARITY], len[P_PARITY],
+                              (struct cgv_record *)(void *)at[P_RECORDS], len[P_RECORDS]};
+        return s;
+    }
+}
+
+static int same_window(struct cgv_window a, struct cgv_window b)
+{
+    return a.base == b.base && a.ssrc == b.ssrc && a.l == b.l && a.d == b.d && a.p == b.p && a.n == b.n && a.k == b.k &&
+           a.present == b.present && a.in_use == b.in_use;
+}
+
+/* Makes a call in plain memory and then between the pages; both must agree. A window value that was made up may need more than
+ * there is, so it is lent no more than that. */
+static struct cgv_answer attack(int kind, struct cgv_window value, uint16_t number, size_t out_len)
+{
+    static const struct cgv_window zeros = CGV_NO_WINDOW;
+    const size_t *len = same_window(value, w) ? lengths : honest;
+    struct part *out = &parts[P_OUT];
+    struct call plain, c;
+    memset(&plain, 0, sizeof plain);
+    doing = names[kind];
+    calls++;
+    plain.kind = kind;
+    plain.w = value;
+    plain.number = number;
+    plain.datagram = parts[P_DATAGRAM].plain;
+    plain.len = parts[P_DATAGRAM].size;
+    plain.out = out->plain;
+    plain.out_len = len == honest && out_len > out->size ? out->size : out_len;
+    plain.s = store_in(2, len);
+    c = plain;
+    make(&plain);
+    c.datagram = parts[P_DATAGRAM].at[1];
+    c.s = store_in(plain.a.number || kind >= READ, len);
+    c.out = out->at[plain.a.number != 0];
+    make_on_stack(&c);
+    if (c.a.number != plain.a.number || c.a.count != plain.a.count || !same_window(c.a.window, plain.a.window))
+        fail("another answer than in plain memory");
+    if (c.a.number >= CGV_NUMBERS || (c.a.number && (c.a.count || !same_window(c.a.window, kind == OPEN ? zeros : value))))
+        fail("a refusal with a count or another window value");
+    numbers[c.a.number]++;
+    if (kind >= READ && !c.a.number)
+        same_as_plain(out);
+#ifdef FUZZ
+    met[(kind * CGV_NUMBERS + (int)c.a.number) * 8 + (int)(c.a.count < 7 ? c.a.count : 7)] = 1;
+#endif
+    return c.a;
+}
+
+/* The helpers of the headers, over the mapping that can only be read: also where parts are shorter than the window claims. */
+static void attack_helpers(struct cgv_window value)
+{
+    struct cgv_receiver r = {value, store_in(1, honest)};
+    const uint8_t *payload;
+    uint16_t number = 0;
+    size_t i, end = value.n < 1000 ? value.n + 2 : 1000;
+    struct cgv_desk other = desk;
+    doing = "the helpers";
+    for (i = 0; i < end; i++) {
+        number = cgv_number(&value, i);
+        payload = cgv_receiver_payload(&r, number);
+        if (payload && (!cgv_receiver_has(&r, number) || payload < r.store.media || payload + value.p > r.store.media + r.store.media_len))
+            fail("a payload that is not in the media part");
+        helpers += 2;
+    }
+    cgv_desk_begin(&other, &r);
+    other.untold = 3;
+    while (cgv_desk_rebuilt(&other, &r, &number))
+        fail("a packet told that was there before");
+    helpers += 2;
+}
+
+static size_t pick(size_t least, size_t most) { return least + (size_t)draw(most - least + 1); }
+
+/* A value for a field that is at an edge, or anything. */
+static size_t edge(void)
+{
+    static const size_t edges[] = {0, 1, 3, 4, 5, 20, 21, 100, 101, 127, 128, 129, 187, 188, 204, 399, 400, 401, 1316, 1428, 65535, 65536,
+                                   (size_t)1 << 32, (size_t)1 << 46, (size_t)1 << 63, SIZE_MAX - 12, SIZE_MAX};
+    return one_in(4) ? (size_t)draw(70000) : edges[draw(sizeof edges / sizeof edges[0])];
+}
+
+static struct cgv_window made_up(struct cgv_window value)
+{
+    switch (draw(8)) {
+    case 0: value.l = edge(); break;
+    case 1: value.d = edge(); break;
+    case 2: value.p = edge(); break;
+    case 3: value.n = edge(); break;
+    case 4: value.k = edge(); break;
+    case 5: value.present = one_in(2) ? value.present + 1 : edge(); break;
+    case 6: value.in_use = one_in(2) ? value.in_use + 1 : edge(); break;
+    default: value.base = (uint16_t)draw(65536); break;
+    }
+    return value;
+}
+
+/* ---- datagrams */
+
+static uint32_t stamp(uint16_t number) { return 3003u * (number / 7u); }
+
+static void write_rtp(uint8_t *g, uint8_t type, uint16_t number, uint32_t time)
+{
+    const uint8_t header[12] = {0x80, type, (uint8_t)(number >> 8), (uint8_t)number,
+                                (uint8_t)(time >> 24), (uint8_t)(time >> 16), (uint8_t)(time >> 8), (uint8_t)time, 1, 2, 3, 4};
+    memcpy(g, header, sizeof header);
+}
+
+static void add_payload(uint8_t *g, uint16_t number, size_t p)
+{
+    size_t i;
+    for (i = 0; i < p; i++)
+        g[i] ^= (uint8_t)(number * 31u + i * 7u + (number >> 5));
+}
+
+/* Lays the datagram of a kind in its place, right as the window has it or altered. */
+static void write_datagram(int kind, uint16_t number)
+{
+    static uint8_t g[CGV_PARITY_DATAGRAM_MAX + 64];
+    size_t header = kind == MEDIA ? 12 : 28, p = w.p <= CGV_PAYLOAD_MAX ? w.p : CGV_PAYLOAD_MAX, len = header + p, i, j;
+    memset(g, 0, sizeof g);
+    if (kind == MEDIA) {
+        write_rtp(g, 33, number, stamp(number));
+        add_payload(g + 12, number, p);
+    } else {
+        size_t offset = kind == ROW ? 1 : w.l, na = kind == ROW ? w.l : w.d;
+        uint32_t time = 0;
+        write_rtp(g, 96, (uint16_t)draw(65536), 5);
+        for (j = 0; j < na && j < 20; j++) {
+            time ^= stamp((uint16_t)(number + j * offset));
+            add_payload(g + 28, (uint16_t)(number + j * offset), p);
+        }
+        g[12] = (uint8_t)(number >> 8), g[13] = (uint8_t)number;
+        g[14] = (uint8_t)(na % 2 ? p >> 8 : 0), g[15] = (uint8_t)(na % 2 ? p : 0);
+        g[16] = 0x80 | (na % 2 ? 33 : 0);
+        g[20] = (uint8_t)(time >> 24), g[21] = (uint8_t)(time >> 16), g[22] = (uint8_t)(time >> 8), g[23] = (uint8_t)time;
+        g[24] = kind == ROW ? 0x40 : 0, g[25] = (uint8_t)offset, g[26] = (uint8_t)na;
+    }
+    switch (draw(24)) {
+    case 0: g[draw(header)] ^= (uint8_t)(1u << draw(8)); break;
+    case 1: g[draw(len)] ^= (uint8_t)(1u << draw(8)); break;
+    case 2: len = (size_t)draw(len + 1); break;
+    case 3: len += (size_t)draw(64); break;
+    case 4: len = (size_t)draw(30); break;
+    case 5:
+        for (i = 0; i < header; i++)
+            g[i] = (uint8_t)draw(256);
+        break;
+    default: break;
+    }
+    place(&parts[P_DATAGRAM], len, one_in(2));
+    memcpy(parts[P_DATAGRAM].at[0], g, len);
+    memcpy(parts[P_DATAGRAM].plain, g, len);
+}
+
+/* ---- the attack */
+
+/* Lays the five parts: their need or a little less, lent at their length, or as more than there is. */
+static void lay_store(void)
+{
+    size_t need[STORE], room = MOST, i;
+    static const size_t of[STORE] = {1, 4, 1, 1, 8};
+    need[P_MEDIA] = w.n * w.p;
+    need[P_TIMESTAMPS] = need[P_MARKS] = w.n;
+    need[P_PARITY] = w.k * w.p;
+    need[P_RECORDS] = w.k;
+    for (i = 0; i < STORE; i++) {
+        size_t elements = need[i];
+        if (elements > room / of[i] || w.n > 1000 || w.p > 2000 || w.k > 1000)
+            elements = (size_t)draw(2000);
+        if (one_in(60))
+            elements = one_in(2) ? elements - (elements > 0) : (size_t)draw(elements + 1);
+        place(&parts[i], elements * of[i], one_in(2));
+        lengths[i] = honest[i] = elements;
+        if (elements >= need[i] && one_in(3)) {
+            lengths[i] += (size_t)draw(CLAIM);
+            claims++;
+        }
+    }
+}
+
+static void set_up(void)
+{
+    memset(&w, 0, sizeof w);
+    w.base = (uint16_t)(one_in(2) ? 65536 - draw(300) : draw(65536));
+    w.ssrc = (uint32_t)draw(65536);
+    w.d = pick(4, 20);
+    w.l = pick(1, 100 / w.d < 20 ? 100 / w.d : 20);
+    w.p = (one_in(2) ? 188 : 204) * (one_in(4) ? pick(1, 7) : 1);
+    w.n = pick(w.l * w.d, one_in(8) ? 400 : w.l * w.d * 2 < 400 ? w.l * w.d * 2 : 400);
+    w.k = one_in(2) ? pick(1, 128) : pick(1, 6);
+    if (one_in(16))
+        w = made_up(w);
+}
+
+/* A byte of marks or records is changed from outside, in all three places, or changed back. */
+static void change(size_t at, int part, uint8_t by)
+{
+    if (parts[part].size == 0)
+        return;
+    at %= parts[part].size;
+    parts[part].at[0][at] ^= by;
+    parts[part].plain[at] ^= by;
+}
+
+static void step(void)
+{
+    int kind = (int)pick(MEDIA, WRITE_ROW), disorder = one_in(40), part = one_in(2) ? P_MARKS : P_RECORDS;
+    size_t at = (size_t)draw(4096), output;
+    uint8_t by = (uint8_t)(1u << draw(8));
+    struct cgv_window value = one_in(20) ? made_up(w) : w;
+    uint16_t number = (uint16_t)(w.base + (one_in(20) ? draw(65536) : draw(w.n && w.n < 65536 ? w.n : 400)));
+    struct cgv_answer a;
+    if (kind == COLUMN || (kind == ROW && one_in(2)))
+        number = (uint16_t)(w.base + (w.l ? draw(w.l < 400 ? w.l : 400) : 0));
+    if (kind >= READ) {
+        size_t p = w.p <= CGV_PAYLOAD_MAX ? w.p : CGV_PAYLOAD_MAX;
+        output = (kind == READ ? 12 : 28) + p;
+        if (one_in(16))
+            output = (size_t)draw(output + 1);
+        place(&parts[P_OUT], output, one_in(2));
+        if (output == (kind == READ ? 12 : 28) + p && one_in(3))
+            output += (size_t)draw(CLAIM);
+    } else {
+        output = 0;
+        write_datagram(one_in(30) ? (int)pick(MEDIA, ROW) : kind, number);
+    }
+    if (disorder)
+        change(at, part, by);
+    a = attack(kind, value, number, output);
+    if (kind < READ && !a.number)
+        w = a.window;
+    if (disorder && !a.number)
+        return; /* it was taken at its word; what comes now is as it comes */
+    if (disorder)
+        change(at, part, by);
+}
+
+static void one_window(void)
+{
+    size_t i, steps = pick(1, 400);
+    struct cgv_answer a;
+    windows++;
+    set_up();
+    lay_store();
+    place(&parts[P_OUT], 0, one_in(2));
+    place(&parts[P_DATAGRAM], 0, one_in(2));
+    a = attack(OPEN, w, 0, 0);
+    if (!a.number)
+        w = a.window;
+    else
+        steps = 8;
+    for (i = 0; i < steps; i++) {
+#ifdef FUZZ
+        if (!left)
+            break;
+#endif
+        step();
+    }
+    for (i = 0; i < STORE; i++)
+        same_as_plain(&parts[i]);
+    attack_helpers(one_in(2) ? w : made_up(w));
+}
+
+#ifdef FUZZ
+static void tell(void) { fprintf(stderr, "guard: %llu calls over %llu windows, %llu helpers\n", calls, windows, helpers); }
+
+int LLVMFuzzerTestOneInput(const uint8_t *data, size_t size)
+{
+    if (!parts[0].plain) {
+        make_parts();
+        atexit(tell);
+    }
+    bytes = data;
+    left = size;
+    while (left)
+        one_window();
+    return 0;
+}
+#else
+int main(int argc, char **argv)
+{
+    double seconds = argc > 1 ? strtod(argv[1], NULL) : 0;
+    struct sigaction action;
+    struct timespec start, now;
+    stack_t other;
+    size_t i, rarest = 0;
+    seed = argc > 2 ? strtoull(argv[2], NULL, 10) : 1;
+    state = seed;
+    memset(&action, 0, sizeof action);
+    memset(&other, 0, sizeof other);
+    other.ss_size = STACK;
+    other.ss_sp = malloc(other.ss_size);
+    action.sa_sigaction = faulted;
+    action.sa_flags = SA_SIGINFO | SA_ONSTACK;
+    if (!other.ss_sp || sigaltstack(&other, NULL) || sigaction(SIGSEGV, &action, NULL) || sigaction(SIGBUS, &action, NULL))
+        fail("no signal handler");
+    make_parts();
+    paint_stack();
+    clock_gettime(CLOCK_MONOTONIC, &start);
+    do {
+        one_window();
+        clock_gettime(CLOCK_MONOTONIC, &now);
+    } while (seconds > 0 ? (double)(now.tv_sec - start.tv_sec) < seconds : calls < 1000000);
+    for (i = 0; i < CGV_NUMBERS; i++)
+        rarest = numbers[i] < numbers[rarest] ? i : rarest;
+    if (!numbers[rarest]) {
+        fprintf(stderr, "guard: number %zu was not reached: %s\n", rarest, cgv_message((uint32_t)rarest));
+        return 1;
+    }
+    if (stack_used() > STACK_MAX) {
+        fprintf(stderr, "guard: a call needed %zu bytes of stack\n", stack_used());
+        return 1;
+    }
+    printf("guard: %llu calls over %llu windows, %llu lengths that claimed more than there is, %llu helpers: nothing touched that must not be;\n"
+           "  every number from 0 to 17, the rarest, %zu, %llu times; a call needed %zu bytes of stack at most\n",
+           calls, windows, claims, helpers, rarest, numbers[rarest], stack_used());
+    return 0;
+}
+#endif
