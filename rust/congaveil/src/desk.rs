@@ -64,7 +64,7 @@ impl fmt::Display for Counters {
         write!(f, "received {}, recovered {}, late {}, ", self.received, self.recovered(), self.late)?;
         write!(f, "missing {}, alarms {}, refused {}", self.missing(), self.alarms, self.refused())?;
         let mut before = " (";
-        for (number, count) in self.answers.iter().enumerate().skip(1).filter(|(_, count)| **count > 0) {
+        for (number, count) in (0..18).zip(self.answers).skip(1).filter(|(_, count)| *count > 0) {
             write!(f, "{before}no. {number}: {count}")?;
             before = ", ";
         }
@@ -140,14 +140,12 @@ impl Desk {
         self.untold = 0;
         self.from = 0;
         self.how = [How::Missing; POSITIONS_MAX];
-        let mut to_come = 0;
-        for (position, how) in self.how.iter_mut().take(receiver.window().n).enumerate() {
+        for (position, how) in (0..receiver.window().n).zip(&mut self.how) {
             match receiver.marked(position) {
                 true => *how = How::Arrived,
-                false => to_come += 1,
+                false => add(&mut self.counters.positions, 1),
             }
         }
-        self.counters.positions = self.counters.positions.wrapping_add(to_come);
     }
 
     /// The counters.
@@ -270,10 +268,10 @@ impl<'r, S: Store> Iterator for Rebuilt<'_, 'r, S> {
                     break;
                 }
             };
-            *from += 1;
+            *from = position.wrapping_add(1);
             if *how == How::Missing && self.receiver.marked(position) {
                 *how = How::Rebuilt;
-                *untold -= 1;
+                *untold = untold.saturating_sub(1);
                 if let Some(packet) = self.receiver.packet_at(position) {
                     return Some(packet);
                 }

@@ -218,9 +218,9 @@ impl<S: Store> Receiver<S> {
 
     /// The numbers of the window whose packets are missing, in order.
     pub fn missing(&self) -> impl Iterator<Item = u16> + '_ {
-        let base = self.window.base;
-        let marks = self.store.shown().marks.iter().take(self.window.n);
-        marks.enumerate().filter(|(_, mark)| **mark == 0).map(move |(i, _)| base.wrapping_add(i as u16))
+        let (base, marks) = (self.window.base, self.store.shown().marks);
+        let missing = move |position: &usize| marks.get(*position) == Some(&0);
+        (0..marks.len().min(self.window.n)).filter(missing).map(move |position| base.wrapping_add(position as u16))
     }
 
     /// How many packets are present.

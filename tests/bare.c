@@ -1,0 +1,41 @@
+/* Calls the card of tests/bare.rs: a packet taken in, an opening and a made-up window value refused, the line of its counters. */
+#include "congaveil.h"
+#include <stdbool.h>
+#include <stdio.h>
+#include <string.h>
+
+struct card {
+    uint8_t media[16 * 188];
+    uint32_t timestamps[16];
+    uint8_t marks[16], parity[8 * 188];
+    struct cgv_record records[8];
+    uint8_t datagram[216];
+    size_t len;
+    char line[256];
+};
+
+int bare_card(struct card *card, const size_t *set_up, const struct cgv_window *made_up, bool opens, uint16_t number);
+
+int main(void)
+{
+    static struct card card;
+    static const struct cgv_window huge = {0, 0, 4, 4, SIZE_MAX, 16, 8, 0, 0};
+    size_t good[6] = {65530, 4, 4, 188, 16, 8}, bad[6] = {0, 4, 4, 188, 401, 8};
+    int i, answers[3];
+    card.datagram[0] = 0x80, card.datagram[1] = 33, card.datagram[2] = 0xff, card.datagram[3] = 0xfb;
+    card.len = 200;
+    answers[0] = bare_card(&card, good, &huge, true, 65531);
+    if (strcmp(card.line, "received 1, recovered 0, late 0, missing 15, alarms 0, refused 2 (no. 8: 2)") || card.marks[1] != 1) {
+        fprintf(stderr, "bare: %s\n", card.line);
+        return 1;
+    }
+    answers[1] = bare_card(&card, bad, &huge, true, 0);
+    answers[2] = bare_card(&card, good, &huge, false, 0);
+    for (i = 0; i < 3; i++)
+        if (answers[i] != (i == 0 ? -17 : i == 1 ? -3 : -2)) {
+            fprintf(stderr, "bare: answer %d is %d\n", i, answers[i]);
+            return 1;
+        }
+    printf("bare: the crate without std and without a way to a panic\n");
+    return 0;
+}

@@ -1,0 +1,88 @@
+//! A card without std, heap or panic: the crate with a lent store and a desk, every function of it called with what the
+//! compiler cannot foresee. The handler of panics needs a symbol that nobody defines, so the program links only if no way to a
+//! panic is left. tests/bare.c calls it.
+#![no_std]
+
+use congaveil::{media_number, parity_snbase, Counters, Desk, How, Lent, Outer, Receiver, Record, Refusal, SetUp, Window};
+use core::fmt::Write;
+
+extern "C" {
+    fn a_way_to_a_panic_is_left() -> !;
+}
+
+#[panic_handler]
+fn panic(_: &core::panic::PanicInfo) -> ! {
+    unsafe { a_way_to_a_panic_is_left() }
+}
+
+/// A line of text in a buffer of the card's own; what does not fit is left out.
+struct Line<'a> {
+    out: &'a mut [u8],
+    len: usize,
+}
+
+impl Write for Line<'_> {
+    fn write_str(&mut self, words: &str) -> core::fmt::Result {
+        for (to, from) in self.out.iter_mut().skip(self.len).zip(words.bytes()) {
+            *to = from;
+        }
+        self.len = self.len.saturating_add(words.len());
+        Ok(())
+    }
+}
+
+/// What a card in C lends: arrays of its own, and a window value that may be made up.
+#[repr(C)]
+pub struct Card {
+    media: [u8; 16 * 188],
+    timestamps: [u32; 16],
+    marks: [u8; 16],
+    parity: [u8; 8 * 188],
+    records: [Record; 8],
+    datagram: [u8; 216],
+    len: usize,
+    line: [u8; 256],
+}
+
+fn negative(refusal: Refusal) -> i32 {
+    (refusal.number() as i32).wrapping_neg()
+}
+
+/// Opens with any numbers, or takes any window value, and calls everything; how many packets were rebuilt, or the last refusal
+/// as a negative number.
+#[no_mangle]
+pub extern "C" fn bare_card(card: &mut Card, set_up: &[usize; 6], made_up: &Window, opens: bool, number: u16) -> i32 {
+    let Card { media, timestamps, marks, parity, records, datagram, len, line } = card;
+    let lent = Lent { media, timestamps, marks, parity, records };
+    let datagram = datagram.get(..*len).unwrap_or(&[]);
+    let [base, l, d, payload, positions, room] = *set_up;
+    let mut receiver = if opens {
+        match Receiver::open_in(SetUp { base: base as u16, l, d, payload, positions, records: room, ssrc: 1 }, lent) {
+            Ok(receiver) => receiver,
+            Err(refusal) => return negative(refusal),
+        }
+    } else {
+        Receiver::from_parts(*made_up, lent)
+    };
+    let mut desk = Desk::new();
+    desk.begin(&receiver);
+    let mut answers = [desk.media(&mut receiver, datagram), desk.column(&mut receiver, datagram), desk.row(&mut receiver, datagram), Ok(0)];
+    let mut out = [0; 216];
+    let _ = receiver.read(number, &mut out);
+    let _ = receiver.write_column(number, Outer::default(), &mut out);
+    answers[3] = receiver.write_row(number, Outer::default(), &mut out).map(|_| 0);
+    let (told, rest) = desk
+        .rebuilt(&receiver)
+        .fold((0, 0usize), |(told, sum), p| (i32::wrapping_add(told, 1), p.payload.len() ^ sum ^ usize::from(p.number)));
+    let here = receiver.packets().fold(0, |sum, p| sum ^ p.payload.len() ^ p.timestamp as usize);
+    let seen = receiver.payload(number).map_or(0, <[u8]>::len) ^ receiver.missing().fold(0, |sum, number| sum ^ usize::from(number));
+    let numbers = media_number(datagram).unwrap_or(0) ^ parity_snbase(datagram).unwrap_or(0);
+    let mut sum = Counters::default();
+    sum += *desk.counters();
+    let counted = sum.recovered() ^ sum.missing() ^ sum.refused() ^ sum.refused_with(Refusal::Outside);
+    let how = desk.how(&receiver, number) == How::Rebuilt || receiver.has(number) || receiver.position(number) == receiver.window().n;
+    let _ = write!(Line { out: line, len: 0 }, "{sum}");
+    let busy = receiver.present() ^ receiver.in_hand() ^ receiver.into_parts().0.k;
+    core::hint::black_box((rest, here, seen, numbers, counted, how, busy));
+    answers.iter().fold(told, |last, answer| answer.map_or_else(negative, |_| last))
+}
