@@ -134,5 +134,9 @@ int main(int argc, char **argv)
     printf("window from %u, %zu of %zu packets present\n%s\n", (unsigned)card.window.base, card.window.present, card.window.n, line);
     print_numbers("recovered", CGV_HOW_REBUILT);
     print_numbers("missing", CGV_HOW_NONE);
+    if (fflush(stdout)) {
+        fprintf(stderr, "card: %s\n", strerror(errno));
+        return 1;
+    }
     return 0;
 }

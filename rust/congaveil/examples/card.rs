@@ -7,7 +7,7 @@
 //! big-endian, and the datagram. Lost here: positions 8 to 12, a burst of 16 from 40 on, and every 17th.
 //! Exits with 1 where the file is at fault or the window cannot be opened, with 2 where the arguments are.
 use congaveil::{media_number, Desk, How, Receiver, SetUp};
-use std::{env, fs, process::ExitCode};
+use std::{env, fs, io, io::Write, process::ExitCode};
 
 const POSITIONS: usize = 200;
 const RECORDS: usize = 80;
@@ -46,12 +46,13 @@ fn lost(position: usize) -> bool {
     (8..13).contains(&position) || (40..56).contains(&position) || position % 17 == 16
 }
 
-fn print_numbers(what: &str, receiver: &Receiver, desk: &Desk, how: How) {
+/// The numbers of the window that came like this, as a line.
+fn numbers(what: &str, receiver: &Receiver, desk: &Desk, how: How) -> String {
     let numbers = (0..receiver.window().n).map(|i| receiver.window().base.wrapping_add(i as u16));
     let words: Vec<String> = numbers.filter(|n| desk.how(receiver, *n) == how).map(|n| n.to_string()).collect();
     match words.len() {
-        0 => println!("{what}: none"),
-        count => println!("{what}: {} ({count})", words.join(" ")),
+        0 => format!("{what}: none\n"),
+        count => format!("{what}: {} ({count})\n", words.join(" ")),
     }
 }
 
@@ -89,10 +90,10 @@ fn card(file: &str, l: usize, d: usize, payload: usize) -> Result<(), String> {
     }
     let receiver = open.ok_or_else(|| of_file(String::from(if bytes.is_empty() { "an empty file" } else { "no media packet in it" })))?;
     let window = receiver.window();
-    println!("window from {}, {} of {} packets present\n{}", window.base, window.present, window.n, desk.counters());
-    print_numbers("recovered", &receiver, &desk, How::Rebuilt);
-    print_numbers("missing", &receiver, &desk, How::Missing);
-    Ok(())
+    let mut text = format!("window from {}, {} of {} packets present\n{}\n", window.base, window.present, window.n, desk.counters());
+    text += &numbers("recovered", &receiver, &desk, How::Rebuilt);
+    text += &numbers("missing", &receiver, &desk, How::Missing);
+    io::stdout().write_all(text.as_bytes()).map_err(|e| e.to_string())
 }
 
 fn main() -> ExitCode {
@@ -117,7 +118,7 @@ fn main() -> ExitCode {
     match card(file, numbers[0], numbers[1], numbers[2]) {
         Ok(()) => ExitCode::SUCCESS,
         Err(e) => {
-            eprintln!("card: {e}");
+            let _ = writeln!(io::stderr(), "card: {e}");
             ExitCode::FAILURE
         }
     }
