@@ -14,7 +14,8 @@
  *         CGV_NO_WINDOW, CGV_STORE_OF_ARRAYS(media, timestamps, marks, parity, records)};
  *
  *     cgv_receiver_open(&r, first_number, 10, 10, 1316, 200, 40, ssrc);
- *     cgv_receiver_media(&r, datagram, len);   (or _column, _row: by the port it came in on)
+ *     cgv_receiver_media(&r, datagram, len);   (from the media port; _column: two ports
+ *                                               higher; _row: four ports higher)
  *     payload = cgv_receiver_payload(&r, number);   (NULL where it is missing)
  *
  * What a call does is proved for every input: answer, next window value and every lent
@@ -80,12 +81,18 @@
  *   other loop. At P 1,316, n 400, K 128 a media packet takes some 0.2 us and the worst
  *   call found, one late packet that rebuilds 100, some 50 us: docs/PERFORMANCE.md.
  *
- * An endless stream
- *   A window stands still. Open the next one (n positions, a store of its own) before the
- *   last one ends, and offer every datagram to both; 13 is the answer of the one that it
- *   is not for. Windows that overlap by (D - 1) x L positions lose no group at the seams:
- *   each group of the stream lies wholly in one of them. Windows end to end cut the
- *   groups that cross a seam, unless each starts where a matrix starts.
+ * An endless stream (examples/endless.c)
+ *   A window stands still. Take two windows in turn, each with a store of its own, and
+ *   offer every datagram to both; 13 is the answer of the one that it is not for. Windows
+ *   that overlap by (D - 1) x L positions lose no group at the seams: the next base is
+ *   base + n - (D - 1) x L, and each group of the stream lies wholly in one of them.
+ *   A packet in the overlap may be rebuilt in one of the two alone: before a window is
+ *   closed, offer what it has there to the other one (cgv_receiver_read gives the
+ *   datagram). Column parity comes up to L x D packets after its matrix, so that two
+ *   windows in turn ask for n >= 2 x (D - 1) x L + L x D.
+ *   Windows end to end cut the groups that cross a seam, unless each starts where a matrix
+ *   starts: of some 4,000 packets lost (10 x 10, n 400, 2 % lost, joined in mid-matrix)
+ *   274 stayed missing end to end, and 6 with the overlap.
  */
 #ifndef CONGAVEIL_H
 #define CONGAVEIL_H
