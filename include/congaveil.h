@@ -50,9 +50,9 @@
  *   n: L x D at least, 400 at most. Senders put a matrix's column parity on the line
  *   while the next matrix goes by, so take 2 x L x D or more.
  *   K: 128 at most. Room for every parity packet that may be of use is as many as there
- *   are groups in the window: L + D for each matrix that the window touches (L alone
- *   where there are no rows). With less, 16 says that one was not taken; with that much,
- *   unaltered traffic never meets 16.
+ *   are groups in the window: L + D for each L x D positions, rounded up (L alone where
+ *   there are no rows). With less, 16 says that one was not taken; with that much, the
+ *   unaltered traffic of one sender never meets 16.
  *   Anyone who can send to the parity ports can hold all K records with K forged parity
  *   packets, each over packets that are missing, until these arrive or the window ends:
  *   true parity then meets 16. Sender addresses are the card's to check.
