@@ -236,6 +236,12 @@ static void helpers(void)
     struct bench b = new_bench(N, P, K);
     uint8_t g[28 + P];
     uint16_t number = 1;
+    char version[32];
+    snprintf(version, sizeof version, "%d.%d.%d", CGV_VERSION_MAJOR, CGV_VERSION_MINOR, CGV_VERSION_PATCH);
+    if (strcmp(version, CGV_VERSION))
+        broken("CGV_VERSION");
+    if (strcmp(cgv_message(18), "not a number of this library") || !strcmp(cgv_message(17), cgv_message(18)))
+        broken("a number in words");
     opens("opens", &b, L, D, P, N, K, 0);
     offers("taken", &b, cgv_receiver_media, g, media(g, 2), 0, 0);
     if (cgv_media_number(g, 11, &number) || number != 1 || !cgv_media_number(g, 12, &number) || number != 2)
