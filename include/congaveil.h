@@ -55,7 +55,9 @@
  *   unaltered traffic of one sender never meets 16.
  *   Anyone who can send to the parity ports can hold all K records with K forged parity
  *   packets, each over packets that are missing, until these arrive or the window ends:
- *   true parity then meets 16. Sender addresses are the card's to check.
+ *   true parity then meets 16. And forged or damaged parity rebuilds wrong packets, which
+ *   nothing shows but a 15 when the true one arrives. Sender addresses are the card's to
+ *   check.
  *
  * What to do with an answer
  *   0          taken in. The count of an offer is packets rebuilt, and not packets lost on
@@ -77,9 +79,9 @@
  * Stack and time
  *   A call needs less than 9 KiB of stack: 8,928 bytes measured on a painted stack, with
  *   its arguments; tests/guard.c fails above 9 KiB.
- *   Time goes with n, with the records in use and with the packets rebuilt; there is no
- *   other loop. At P 1,316, n 400, K 128 a media packet takes some 0.2 us and the worst
- *   call found, one late packet that rebuilds 100, some 50 us: docs/PERFORMANCE.md.
+ *   Time goes with n, K and P, with the records in use and with the packets rebuilt.
+ *   At P 1,316, n 400, K 128 a media packet takes some 0.2 us and the worst call found,
+ *   one late packet that rebuilds 100, some 50 us: docs/PERFORMANCE.md.
  *
  * An endless stream (examples/endless.c)
  *   A window stands still. Take two windows in turn, each with a store of its own, and

@@ -11,6 +11,8 @@ const D: usize = 10;
 const P: usize = 188;
 const N: usize = 400;
 const OVERLAP: usize = (D - 1) * L;
+/// Room for every parity packet of the window, as the header has it: none may be refused with 16.
+const K: usize = N / (L * D) * (L + D);
 const PACKETS: usize = 40_000;
 
 struct Random(u64);
@@ -115,7 +117,7 @@ fn windows(line: &[Sent], join: usize, step: usize, hand_on: bool) -> (BTreeSet<
             place = *now;
         }
         while next + N <= PACKETS - 2 * L * D && place + 1 >= next {
-            let set_up = SetUp { base: next as u16, l: L, d: D, payload: P, positions: N, records: 128, ssrc: 0 };
+            let set_up = SetUp { base: next as u16, l: L, d: D, payload: P, positions: N, records: K, ssrc: 0 };
             let (receiver, mut desk) = (Receiver::open(set_up).unwrap(), Desk::new());
             desk.begin(&receiver);
             open.push((next, receiver, desk));
