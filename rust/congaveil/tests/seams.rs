@@ -11,7 +11,7 @@ const D: usize = 10;
 const P: usize = 188;
 const N: usize = 400;
 const OVERLAP: usize = (D - 1) * L;
-/// Room for every parity packet of the window, as the header has it: none may be refused with 16.
+/// Room for every parity packet that lies in a window, as the header has it.
 const K: usize = N / (L * D) * (L + D);
 const PACKETS: usize = 40_000;
 
@@ -200,4 +200,26 @@ fn cut_columns(overlap: usize) -> Vec<usize> {
 fn the_least_overlap() {
     assert_eq!(cut_columns(OVERLAP), []);
     assert_eq!(cut_columns(OVERLAP - 1), [N - OVERLAP]);
+}
+
+/// How many of a stream's parity packets are refused with 16, wherever in a matrix a window of this room starts: all of them come
+/// before any media, so that each one in the window is held.
+fn refused_for_room(records: usize) -> usize {
+    let all: Vec<Sent> =
+        (0..8 * D).map(|row| Sent::Row(row * L)).chain((0..8).flat_map(|m| (0..L).map(move |k| Sent::Column(m * L * D + k)))).collect();
+    let all: Vec<(Vec<u8>, bool)> = all.iter().map(|sent| (datagram(sent), matches!(sent, Sent::Row(_)))).collect();
+    (0..L * D)
+        .map(|join| {
+            let set_up = SetUp { base: (L * D + join) as u16, l: L, d: D, payload: P, positions: N, records, ssrc: 0 };
+            let mut receiver = Receiver::open(set_up).unwrap();
+            let mut offer = |(datagram, row): &(Vec<u8>, bool)| if *row { receiver.row(datagram) } else { receiver.column(datagram) };
+            all.iter().filter(|sent| offer(sent) == Err(Refusal::Full)).count()
+        })
+        .sum()
+}
+
+#[test]
+fn room_for_every_parity_packet() {
+    assert_eq!(refused_for_room(K), 0);
+    assert!(refused_for_room(K - 1) > 0);
 }
