@@ -230,6 +230,35 @@ static void set_ups(void)
     end_bench(&b);
 }
 
+/* The limits of the header are those that opening keeps to. */
+static void limits(void)
+{
+    static const struct {
+        size_t l, d, p, n, k;
+        uint32_t number;
+    } cases[] = {
+        {CGV_L_MAX, CGV_MATRIX_MAX / CGV_L_MAX, CGV_PAYLOAD_MAX, CGV_POSITIONS_MAX, CGV_RECORDS_MAX, 0},
+        {1, CGV_D_MIN, P, CGV_D_MIN, 1, 0},
+        {1, CGV_D_MAX, P, CGV_D_MAX, 1, 0},
+        {CGV_L_MAX + 1, CGV_D_MIN, P, CGV_POSITIONS_MAX, 1, 1},
+        {1, CGV_D_MIN - 1, P, CGV_POSITIONS_MAX, 1, 1},
+        {1, CGV_D_MAX + 1, P, CGV_POSITIONS_MAX, 1, 1},
+        {CGV_MATRIX_MAX / CGV_D_MAX + 1, CGV_D_MAX, P, CGV_POSITIONS_MAX, 1, 1},
+        {4, 4, CGV_PAYLOAD_MAX + 204, CGV_POSITIONS_MAX, 1, 2},
+        {4, 4, P, CGV_POSITIONS_MAX + 1, 1, 3},
+        {4, 4, P, CGV_POSITIONS_MAX, CGV_RECORDS_MAX + 1, 3}};
+    struct cgv_receiver r;
+    size_t i;
+    memset(&r, 0, sizeof r);
+    r.store = new_store(CGV_POSITIONS_MAX, CGV_PAYLOAD_MAX, CGV_RECORDS_MAX);
+    for (i = 0; i < sizeof cases / sizeof cases[0]; i++) {
+        calls++;
+        if (cgv_receiver_open(&r, BASE, cases[i].l, cases[i].d, cases[i].p, cases[i].n, cases[i].k, 7).number != cases[i].number)
+            broken("a limit of the header");
+    }
+    free_store(r.store);
+}
+
 /* The helpers that take no call: numbers of a datagram, positions, the payload where it lies. */
 static void helpers(void)
 {
@@ -386,6 +415,7 @@ int main(void)
     uint32_t number;
     for (spare = 0; spare <= SPARE; spare += SPARE) {
         set_ups();
+        limits();
         helpers();
         media_offers();
         parity_offers();

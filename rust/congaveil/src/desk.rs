@@ -1,4 +1,4 @@
-use crate::{media_number, Packet, Receiver, Refusal, Store, POSITIONS_MAX};
+use crate::{media_number, Packet, Receiver, Refusal, Store, NUMBERS, POSITIONS_MAX};
 use core::{fmt, ops::AddAssign};
 
 /// Sums over all windows that a [`Desk`] was begun with. They only grow, so a rate is the difference of two readings.
@@ -17,7 +17,7 @@ pub struct Counters {
     /// Media refused with 15: a packet is present, and another one arrived.
     pub alarms: u64,
     /// Offers by answer: the first is of those taken in, the others of those refused with that number.
-    pub answers: [u64; 18],
+    pub answers: [u64; NUMBERS],
 }
 
 impl Counters {
@@ -64,7 +64,7 @@ impl fmt::Display for Counters {
         write!(f, "received {}, recovered {}, late {}, ", self.received, self.recovered(), self.late)?;
         write!(f, "missing {}, alarms {}, refused {}", self.missing(), self.alarms, self.refused())?;
         let mut before = " (";
-        for (number, count) in (0..18).zip(self.answers).skip(1).filter(|(_, count)| *count > 0) {
+        for (number, count) in (0..NUMBERS).zip(self.answers).skip(1).filter(|(_, count)| *count > 0) {
             write!(f, "{before}no. {number}: {count}")?;
             before = ", ";
         }

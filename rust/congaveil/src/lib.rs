@@ -80,9 +80,19 @@ pub use store::{Lent, Record, Store};
 pub const MEDIA_HEADER: usize = 12;
 /// Bytes before the payload of a parity datagram.
 pub const PARITY_HEADER: usize = 28;
+/// The most columns of a parity matrix.
+pub const L_MAX: usize = 20;
+/// The fewest rows of a parity matrix.
+pub const D_MIN: usize = 4;
+/// The most rows of a parity matrix.
+pub const D_MAX: usize = 20;
+/// The most packets of a parity matrix, L × D.
+pub const MATRIX_MAX: usize = 100;
 /// The largest payload: 7 transport packets of 204 bytes.
 pub const PAYLOAD_MAX: usize = 7 * 204;
 /// The most positions that a window may have.
 pub const POSITIONS_MAX: usize = 400;
 /// The most records that a window may have.
 pub const RECORDS_MAX: usize = 128;
+/// How many numbers an answer may have: 0, and the refusals from 1 to 17.
+pub const NUMBERS: usize = 18;

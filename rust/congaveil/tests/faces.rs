@@ -176,6 +176,23 @@ fn parts() {
     assert_eq!(Receiver::from_parts(window, lent).media(&media(BASE, 1)), Ok(0));
 }
 
+/// The limits are those that opening keeps to.
+#[test]
+fn limits() {
+    use congaveil::{D_MAX, D_MIN, L_MAX, MATRIX_MAX, PAYLOAD_MAX, POSITIONS_MAX, RECORDS_MAX};
+    let opens = |l, d, payload, positions, records| Receiver::open(SetUp { l, d, payload, positions, records, ..SET_UP }).err();
+    assert_eq!(opens(L_MAX, MATRIX_MAX / L_MAX, PAYLOAD_MAX, POSITIONS_MAX, RECORDS_MAX), None);
+    assert_eq!(opens(1, D_MIN, P, D_MIN, 1), None);
+    assert_eq!(opens(1, D_MAX, P, D_MAX, 1), None);
+    assert_eq!(opens(L_MAX + 1, D_MIN, P, POSITIONS_MAX, 1), Some(Refusal::BadProfile));
+    assert_eq!(opens(1, D_MIN - 1, P, POSITIONS_MAX, 1), Some(Refusal::BadProfile));
+    assert_eq!(opens(1, D_MAX + 1, P, POSITIONS_MAX, 1), Some(Refusal::BadProfile));
+    assert_eq!(opens(MATRIX_MAX / D_MAX + 1, D_MAX, P, POSITIONS_MAX, 1), Some(Refusal::BadProfile));
+    assert_eq!(opens(4, 4, PAYLOAD_MAX + 204, POSITIONS_MAX, 1), Some(Refusal::BadPayloadSize));
+    assert_eq!(opens(4, 4, P, POSITIONS_MAX + 1, 1), Some(Refusal::BadRoom));
+    assert_eq!(opens(4, 4, P, POSITIONS_MAX, RECORDS_MAX + 1), Some(Refusal::BadRoom));
+}
+
 /// Each has its number and its words.
 #[test]
 fn words() {
@@ -199,6 +216,7 @@ fn words() {
         Full,
         Missing,
     ];
+    assert_eq!(all.len() + 1, congaveil::NUMBERS);
     for (i, refusal) in all.iter().enumerate() {
         assert_eq!(refusal.number(), i as u32 + 1);
         assert!(!refusal.to_string().is_empty());
