@@ -82,14 +82,60 @@ static size_t size_of(const char *word)
     return value;
 }
 
-int main(int argc, char **argv)
+/* Opens the window at a media packet's number. */
+static void open_at(uint16_t number, size_t l, size_t d, size_t p)
+{
+    struct cgv_answer a = cgv_receiver_open(&card, number, l, d, p, POSITIONS, RECORDS, 1);
+    if (a.number) {
+        fprintf(stderr, "card: no window for L %zu, D %zu, payload %zu: %s\n", l, d, p, cgv_message(a.number));
+        exit(1);
+    }
+    cgv_desk_begin(&desk, &card);
+}
+
+/* Offers a datagram, by the port that it came in on; what is refused is counted by its number. */
+static void offer(int kind, const uint8_t *datagram, size_t len)
+{
+    uint16_t number;
+    if (kind == 1)
+        cgv_desk_media(&desk, &card, datagram, len);
+    else if (kind == 2)
+        cgv_desk_column(&desk, &card, datagram, len);
+    else
+        cgv_desk_row(&desk, &card, datagram, len);
+    while (cgv_desk_rebuilt(&desk, &card, &number)) {
+        /* A card sends the packet on from here: P bytes at cgv_receiver_payload(&card, number). */
+    }
+}
+
+/* Feeds a capture, less what is lost. */
+static void feed(struct capture *c, size_t l, size_t d, size_t p)
 {
     static uint8_t datagram[65536];
+    uint16_t number;
+    size_t len;
+    int kind, open = 0;
+    while ((kind = next_entry(c, datagram, &len)) != 0) {
+        int numbered = kind == 1 && cgv_media_number(datagram, len, &number);
+        if (!open && !numbered)
+            continue; /* there is no window yet */
+        if (!open)
+            open_at(number, l, d, p);
+        open = 1;
+        if (!numbered || cgv_position(&card.window, number) >= POSITIONS || !lost(cgv_position(&card.window, number)))
+            offer(kind, datagram, len);
+    }
+    if (!open) {
+        fprintf(stderr, "card: %s: %s\n", c->name, c->entry == 1 ? "an empty file" : "no media packet in it");
+        exit(1);
+    }
+}
+
+int main(int argc, char **argv)
+{
     struct capture c = {argc > 1 ? argv[1] : "", NULL, 0, 0};
     char line[CGV_COUNTERS_LINE];
-    size_t len, l, d, p;
-    uint16_t number;
-    int kind, open = 0;
+    size_t l, d, p;
     if (argc != 5) {
         fprintf(stderr, "usage: card FILE L D PAYLOAD\n");
         return 2;
@@ -100,36 +146,8 @@ int main(int argc, char **argv)
         fprintf(stderr, "card: %s: %s\n", c.name, strerror(errno));
         return 1;
     }
-    while ((kind = next_entry(&c, datagram, &len)) != 0) {
-        if (!open && (kind != 1 || !cgv_media_number(datagram, len, &number)))
-            continue; /* there is no window yet */
-        if (!open) {
-            struct cgv_answer a = cgv_receiver_open(&card, number, l, d, p, POSITIONS, RECORDS, 1);
-            if (a.number) {
-                fprintf(stderr, "card: no window for L %zu, D %zu, payload %zu: %s\n", l, d, p, cgv_message(a.number));
-                return 1;
-            }
-            cgv_desk_begin(&desk, &card);
-            open = 1;
-        }
-        if (kind == 1 && cgv_media_number(datagram, len, &number) && cgv_position(&card.window, number) < POSITIONS &&
-            lost(cgv_position(&card.window, number)))
-            continue;
-        if (kind == 1)
-            cgv_desk_media(&desk, &card, datagram, len);
-        else if (kind == 2)
-            cgv_desk_column(&desk, &card, datagram, len);
-        else
-            cgv_desk_row(&desk, &card, datagram, len);
-        while (cgv_desk_rebuilt(&desk, &card, &number)) {
-            /* A card sends the packet on from here: P bytes at cgv_receiver_payload(&card, number). */
-        }
-    }
+    feed(&c, l, d, p);
     fclose(c.file);
-    if (!open) {
-        fprintf(stderr, "card: %s: %s\n", c.name, c.entry == 1 ? "an empty file" : "no media packet in it");
-        return 1;
-    }
     cgv_counters_line(&desk.counters, line, sizeof line);
     printf("window from %u, %zu of %zu packets present\n%s\n", (unsigned)card.window.base, card.window.present, card.window.n, line);
     print_numbers("recovered", CGV_HOW_REBUILT);

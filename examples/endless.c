@@ -91,44 +91,57 @@ static int lost(void)
     return state >> 16 < 65536 * 2 / 100;
 }
 
+static uint8_t matrix[L * D * P], matrix_marks[L * D], no_parity[P], columns[L][CGV_PARITY_HEADER + P];
+static uint32_t matrix_timestamps[L * D];
+static struct cgv_record no_records[1];
+static struct cgv_receiver sender = {CGV_NO_WINDOW, CGV_STORE_OF_ARRAYS(matrix, matrix_timestamps, matrix_marks, no_parity, no_records)};
+
+/* The media packet of a place, 12 + P bytes; the sender keeps it for the parity. */
+static void make_media(uint8_t *g, unsigned long place)
+{
+    uint16_t number = (uint16_t)(FIRST + place);
+    memset(g, 0, CGV_MEDIA_HEADER);
+    g[0] = 0x80, g[1] = 33, g[2] = (uint8_t)(number >> 8), g[3] = (uint8_t)number;
+    memset(g + CGV_MEDIA_HEADER, byte_of(place), P);
+    if (place % (L * D) == 0)
+        cgv_receiver_open(&sender, number, L, D, P, L * D, 1, 1);
+    cgv_receiver_media(&sender, g, CGV_MEDIA_HEADER + P);
+}
+
+/* The parity that goes out with a place: a column of the last matrix, and the row that ends here. */
+static void send_parity(struct card *c, unsigned long place)
+{
+    uint8_t g[CGV_PARITY_HEADER + P];
+    size_t at = place % (L * D), k;
+    if (place >= L * D && at % D == 0 && !lost())
+        arrive(c, COLUMN, columns[at / D], sizeof columns[0]);
+    if (at % L == L - 1 && !lost()) {
+        cgv_receiver_write_row(&sender, cgv_number(&sender.window, at + 1 - L), 0, 0, 0, g, sizeof g);
+        arrive(c, ROW, g, sizeof g);
+    }
+    for (k = 0; at == L * D - 1 && k < L; k++)
+        cgv_receiver_write_column(&sender, cgv_number(&sender.window, k), 0, 0, 0, columns[k], sizeof columns[k]);
+}
+
+/* The whole stream; how many media packets were lost on the line. */
 static unsigned long run(struct card *c, size_t step)
 {
-    static uint8_t matrix[L * D * P], matrix_marks[L * D], no_parity[P], columns[L][CGV_PARITY_HEADER + P];
-    static uint32_t matrix_timestamps[L * D];
-    static struct cgv_record no_records[1];
-    struct cgv_receiver sender = {CGV_NO_WINDOW, CGV_STORE_OF_ARRAYS(matrix, matrix_timestamps, matrix_marks, no_parity, no_records)};
     unsigned long place, gone = 0;
-    size_t k, at;
     memset(c, 0, sizeof *c);
     c->step = step;
     c->next = JOIN;
     for (place = 0; place < PACKETS; place++) {
-        uint8_t g[CGV_PARITY_HEADER + P];
-        uint16_t number = (uint16_t)(FIRST + place);
-        at = place % (L * D);
-        memset(g, 0, CGV_MEDIA_HEADER);
-        g[0] = 0x80, g[1] = 33, g[2] = (uint8_t)(number >> 8), g[3] = (uint8_t)number;
-        memset(g + CGV_MEDIA_HEADER, byte_of(place), P);
-        if (at == 0)
-            cgv_receiver_open(&sender, number, L, D, P, L * D, 1, 1);
-        cgv_receiver_media(&sender, g, CGV_MEDIA_HEADER + P);
-        if (place == JOIN)
-            start(c, number);
+        uint8_t g[CGV_MEDIA_HEADER + P];
+        make_media(g, place);
         if (place < JOIN)
             continue;
+        if (place == JOIN)
+            start(c, (uint16_t)(FIRST + place));
         if (place > JOIN && lost())
             gone++;
         else
-            arrive(c, MEDIA, g, CGV_MEDIA_HEADER + P);
-        if (place >= L * D && at % D == 0 && !lost())
-            arrive(c, COLUMN, columns[at / D], sizeof columns[0]);
-        if (at % L == L - 1 && !lost()) {
-            cgv_receiver_write_row(&sender, cgv_number(&sender.window, at + 1 - L), 0, 0, 0, g, sizeof g);
-            arrive(c, ROW, g, sizeof g);
-        }
-        if (at == L * D - 1)
-            for (k = 0; k < L; k++)
-                cgv_receiver_write_column(&sender, cgv_number(&sender.window, k), 0, 0, 0, columns[k], sizeof columns[k]);
+            arrive(c, MEDIA, g, sizeof g);
+        send_parity(c, place);
     }
     return gone;
 }
