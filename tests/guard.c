@@ -21,7 +21,7 @@
 #include <ucontext.h>
 #include <unistd.h>
 
-enum { PAGE = 4096, MOST = 140 * PAGE, CLAIM = 1000, STACK = 64 * 1024, STACK_MAX = 9 * 1024 };
+enum { PAGE = 4096, MOST = 140 * PAGE, CLAIM = 1000, STACK = 64 * 1024, STACK_MAX = 8 * 1024 };
 enum { OPEN, MEDIA, COLUMN, ROW, READ, WRITE_COLUMN, WRITE_ROW, KINDS };
 static const char *const names[KINDS] = {"cgv_open", "cgv_media", "cgv_column", "cgv_row", "cgv_read", "cgv_write_column", "cgv_write_row"};
 

@@ -36,9 +36,8 @@ struct CAnswer {
 #[derive(Clone, Copy, Debug, PartialEq, Eq)]
 pub struct RawRecord(pub [u8; 8]);
 
+// C's order and no gap: the fields stand at 0, 1, 2 and 4.
 const _: () = assert!(std::mem::size_of::<CRecord>() == 8 && std::mem::align_of::<CRecord>() == 4);
-const _: () = assert!(std::mem::offset_of!(CRecord, stream) == 0 && std::mem::offset_of!(CRecord, in_use) == 1);
-const _: () = assert!(std::mem::offset_of!(CRecord, snbase) == 2 && std::mem::offset_of!(CRecord, timestamp_recovery) == 4);
 
 impl RawRecord {
     pub fn set(&mut self, record: Record) {
@@ -79,10 +78,22 @@ declare!(cgv_media, [w: CWindow, datagram: *const u8, len: usize], *mut u8, *mut
 declare!(cgv_column, [w: CWindow, datagram: *const u8, len: usize], *mut u8, *mut u32, *mut CRecord, []);
 declare!(cgv_row, [w: CWindow, datagram: *const u8, len: usize], *mut u8, *mut u32, *mut CRecord, []);
 declare!(cgv_read, [w: CWindow, number: u16], *const u8, *const u32, *const CRecord, [out: *mut u8, out_len: usize]);
-declare!(cgv_write_column, [w: CWindow, snbase: u16, sequence: u16, timestamp: u32, ssrc: u32],
-         *const u8, *const u32, *const CRecord, [out: *mut u8, out_len: usize]);
-declare!(cgv_write_row, [w: CWindow, snbase: u16, sequence: u16, timestamp: u32, ssrc: u32],
-         *const u8, *const u32, *const CRecord, [out: *mut u8, out_len: usize]);
+declare!(
+    cgv_write_column,
+    [w: CWindow, snbase: u16, sequence: u16, timestamp: u32, ssrc: u32],
+    *const u8,
+    *const u32,
+    *const CRecord,
+    [out: *mut u8, out_len: usize]
+);
+declare!(
+    cgv_write_row,
+    [w: CWindow, snbase: u16, sequence: u16, timestamp: u32, ssrc: u32],
+    *const u8,
+    *const u32,
+    *const CRecord,
+    [out: *mut u8, out_len: usize]
+);
 
 /// The lent store. A slice's pointer is valid and not null also where it is empty.
 pub struct Lent<'a> {

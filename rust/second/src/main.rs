@@ -147,9 +147,12 @@ fn arguments() -> Option<(Option<u64>, Option<u64>)> {
 }
 
 fn main() -> ExitCode {
-    let Some((seconds, seed)) = arguments() else {
-        eprintln!("use: second [--seconds N] [--seed S]");
-        return ExitCode::from(2);
+    let (seconds, seed) = match arguments() {
+        Some(both) => both,
+        None => {
+            eprintln!("use: second [--seconds N] [--seed S]");
+            return ExitCode::from(2);
+        }
     };
     let result = Run::new().and_then(|mut run| match (seconds, seed) {
         (None, None) => run.fixed(),

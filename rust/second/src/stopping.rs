@@ -45,7 +45,7 @@ pub fn run(seed: u64, tally: &mut Tally) -> Result<(), String> {
     let mut groups = Vec::new();
     for stream in [COLUMN, ROW] {
         for start in 0..n as i64 {
-            let regular = if stream == COLUMN { (start as u64) % (l * d) < l } else { (start as u64).is_multiple_of(l) };
+            let regular = if stream == COLUMN { (start as u64) % (l * d) < l } else { (start as u64) % l == 0 };
             if (stream == COLUMN || l >= 4) && stretch.fits(stream, start) && (!aligned || regular) && rng.chance(density) {
                 groups.push((stream, start));
             }

@@ -325,7 +325,7 @@ fn alter(rng: &mut Rng, stretch: &Stretch, port: u8, datagram: &mut Vec<u8>) {
             }
             10 => {
                 let more = rng.pick(&[1, 1, 2, 12, 16, 188, 600]);
-                datagram.extend(std::iter::repeat_n(7, more));
+                datagram.extend(std::iter::repeat(7).take(more));
             }
             11 => {
                 let at = rng.index(datagram.len());
