@@ -9,6 +9,7 @@ use Rattle.rtp.specs.Fec.{parityHeaderSize, snbase, timestampRecovery}
 use Rattle.window.specs.declared.Window.{Window}
 use Rattle.window.specs.Store.{Store}
 use Rattle.window.specs.Group.{position, group, missing}
+use Rattle.window.specs.Limits.{rows}
 use Rattle.window.specs.Order.{inUse}
 use Rattle.calls.specs.Content.{Content}
 use Rattle.calls.specs.State.{State, storeMedia, rebuild, hold}
@@ -27,7 +28,7 @@ acceptMedia g x = storeMedia (position (x .window) (sequenceNumber g)) (contentO
 
 -- the free record of lowest index
 abbrev pub firstFree : Window → Store → ℕ
-firstFree w s = headOr (w .k) (keep (λ r. not (inUse s r)) (upTo (w .k)))
+firstFree w s = headOr (rows w) (keep (λ r. not (inUse w s r)) (upTo (rows w)))
 
 -- a parity packet with none missing is of no use; with one missing it rebuilds that; with more it is held
 abbrev pub takeParity : (missing : List ℕ) (stream snbase : ℕ) → Content → State → State

@@ -1,10 +1,9 @@
 -- The calls: from the window value, the datagram and the lent store to answer, next window value and next store.
 use mathlib.Core.Bool.{Bool, cond, not, _&&_, _||_}
-use mathlib.Core.List.{List, [], _∷_, _++_, map}
+use mathlib.Core.List.{List, [], _∷_, _++_}
 use Prim.Native.Nat.{ℕ, _+_, _*_}
 use lib.Dec.{eqb, leb, ltb}
 use lib.ListN.{length, drop, replicate}
-pub use Rattle.xor.specs.Same.{same}
 use Rattle.answer.specs.declared.Answer.{Answer}
 use Rattle.answer.specs.declared.Answer.the-variants.{Done, Refused}
 use Rattle.answer.specs.First.{first}
@@ -15,12 +14,13 @@ use Rattle.rtp.specs.Faults.{mediaTests, parityTests, noRow}
 use Rattle.window.specs.declared.Record.{Record}
 use Rattle.window.specs.declared.Window.{Window}
 use Rattle.window.specs.Record.{blank}
-use Rattle.window.specs.Limits.{leastMissing, setUpTests}
-use Rattle.window.specs.Store.{Store, shortStore, payloadAt, timestampAt, recordAt}
+use Rattle.window.specs.Limits.{leastMissing, rows, room, setUpTests}
+use Rattle.window.specs.Store.{Store, shortStore, recordAt}
 use Rattle.window.specs.Group.{position, group, inside, isMissing, missing}
 use Rattle.window.specs.Order.{inUse, disorder}
 use Rattle.calls.specs.Datagram.{mediaPacket, Outer, parityPacket}
-use Rattle.calls.specs.Content.{Content, recoveryAt}
+pub use Rattle.calls.specs.Content.{same, sameContent, contentAt}
+use Rattle.calls.specs.Content.{xorContents, recoveryAt}
 use Rattle.calls.specs.State.{State, scene}
 use Rattle.calls.specs.Settle.{settle}
 use Rattle.calls.specs.Accept.{contentOf, recoveryOf, acceptMedia, acceptParity}
@@ -58,8 +58,8 @@ cleared w s =
       media = zeroed (w .n * w .p) (s .media);
       timestamps = zeroed (w .n) (s .timestamps);
       marks = zeroed (w .n) (s .marks);
-      parity = zeroed (w .k * w .p) (s .parity);
-      records = wiped (w .k) (s .records);
+      parity = zeroed (rows w * w .p) (s .parity);
+      records = wiped (rows w) (s .records);
     }
 
 -- the window value that a card asks for: the counts are 0
@@ -82,14 +82,6 @@ opened w s =
 abbrev pub standingTests : Window → Store → (room need : ℕ) → List (ℕ × Bool)
 standingTests w s room need = setUpTests w ++ ((4, shortStore w s || ltb room need) ∷ (5, disorder w s) ∷ [])
 
--- two contents are equal
-abbrev pub sameContent : Content → Content → Bool
-sameContent a b = eqb (a .timestamp) (b .timestamp) && same (a .payload) (b .payload)
-
--- the content kept at a position
-abbrev pub contentAt : Window → Store → ℕ → Content
-contentAt w s i = record { timestamp = timestampAt s i; payload = payloadAt w s i }
-
 -- 13 to 15 for a media datagram: its number lies outside; it is held, the same; it is held, with a difference
 abbrev pub mediaPlaceTests : Window → List ℕ → Store → List (ℕ × Bool)
 mediaPlaceTests w g s =
@@ -103,21 +95,21 @@ abbrev pub mediaOfferTests : Window → List ℕ → Store → List (ℕ × Bool
 mediaOfferTests w g s = standingTests w s 0 0 ++ mediaTests (w .p) g ++ mediaPlaceTests w g s
 
 -- a record in use holds this group
-abbrev pub holds : Store → (stream snbase : ℕ) → ℕ → Bool
-holds s stream snbase r = inUse s r && (eqb (recordAt s r .stream) stream && eqb (recordAt s r .snbase) snbase)
+abbrev pub holds : Window → Store → (stream snbase : ℕ) → ℕ → Bool
+holds w s stream snbase r = inUse w s r && (eqb (recordAt s r .stream) stream && eqb (recordAt s r .snbase) snbase)
 
 -- and holds it with the same recovery
 abbrev pub holdsSame : Window → Store → (stream : ℕ) → List ℕ → ℕ → Bool
-holdsSame w s stream g r = holds s stream (snbase g) r && sameContent (recoveryAt w s r) (recoveryOf g)
+holdsSame w s stream g r = holds w s stream (snbase g) r && sameContent (recoveryAt w s r) (recoveryOf g)
 
 -- 13 to 16 for a parity datagram: a member lies outside; it is in hand, the same; it is in hand, with a difference;
--- two or more are missing and every record is in use
+-- as many are missing as parity in hand waits for, and there is no room
 abbrev pub parityPlaceTests : Window → (stream : ℕ) → List ℕ → Store → List (ℕ × Bool)
 parityPlaceTests w stream g s =
     (13, not (inside w stream (snbase g)))
-    ∷ (14, any (holdsSame w s stream g) (upTo (w .k)))
-    ∷ (15, any (holds s stream (snbase g)) (upTo (w .k)))
-    ∷ (16, leb leastMissing (length (missing (s .marks) (group w stream (snbase g)))) && not (ltb (w .«in_use») (w .k)))
+    ∷ (14, any (holdsSame w s stream g) (upTo (rows w)))
+    ∷ (15, any (holds w s stream (snbase g)) (upTo (rows w)))
+    ∷ (16, leb leastMissing (length (missing (s .marks) (group w stream (snbase g)))) && not (ltb (w .«in_use») (room w)))
     ∷ []
 
 -- the tests of a parity offer on the port of a stream: 1 to 16
@@ -161,11 +153,13 @@ offeredRow = offeredParity row
 abbrev pub over : List ℕ → List ℕ → List ℕ
 over datagram out = datagram ++ drop (length datagram) out
 
--- the tests of reading out: 1 to 5, 13 (the number lies outside) and 17 (the packet is missing)
+-- 13 and 17 for reading out: the number lies outside; the packet is missing
+abbrev pub readPlaceTests : Window → (number : ℕ) → Store → List (ℕ × Bool)
+readPlaceTests w number s = (13, not (ltb (position w number) (w .n))) ∷ (17, isMissing (s .marks) (position w number)) ∷ []
+
+-- the tests of reading out: 1 to 5, 13 and 17
 abbrev pub readTests : Window → (number : ℕ) → Store → (out : List ℕ) → List (ℕ × Bool)
-readTests w number s out =
-    standingTests w s (length out) (rtpHeaderSize + w .p)
-    ++ ((13, not (ltb (position w number) (w .n))) ∷ (17, isMissing (s .marks) (position w number)) ∷ [])
+readTests w number s out = standingTests w s (length out) (rtpHeaderSize + w .p) ++ readPlaceTests w number s
 
 -- reading out a number: its datagram, or the refusal; store and window value stay (01, "Taking a packet in")
 unfoldable pub readOut : Window → (number : ℕ) → Store → (out : List ℕ) → Written
@@ -174,23 +168,23 @@ readOut w number s out =
     (record {
       answer = Done (rtpHeaderSize + w .p);
       window = w;
-      out = over (mediaPacket number (timestampAt s (position w number)) (w .ssrc) (payloadAt w s (position w number))) out;
+      out = over (mediaPacket number (w .ssrc) (contentAt w s (position w number))) out;
     })
     (record { answer = Refused (first (readTests w number s out)); window = w; out = out })
 
--- the tests of writing parity: 1 to 5, 12 (a row where rows are not permitted), 13 (a member lies outside) and 17 (a member is missing)
+-- 12, 13 and 17 for writing parity: a row where rows are not permitted; a member lies outside; a member is missing
+abbrev pub writePlaceTests : Window → (stream snbase : ℕ) → Store → List (ℕ × Bool)
+writePlaceTests w stream snbase s =
+    (12, noRow stream (w .l)) ∷ (13, not (inside w stream snbase)) ∷ (17, any (isMissing (s .marks)) (group w stream snbase)) ∷ []
+
+-- the tests of writing parity: 1 to 5, 12, 13 and 17
 abbrev pub writeTests : Window → (stream snbase : ℕ) → Store → (out : List ℕ) → List (ℕ × Bool)
-writeTests w stream snbase s out =
-    standingTests w s (length out) (parityHeaderSize + w .p)
-    ++ ((12, noRow stream (w .l))
-    ∷ (13, not (inside w stream snbase))
-    ∷ (17, any (isMissing (s .marks)) (group w stream snbase))
-    ∷ [])
+writeTests w stream snbase s out = standingTests w s (length out) (parityHeaderSize + w .p) ++ writePlaceTests w stream snbase s
 
 -- the parity packet of a group that is present
 abbrev pub parityOf : Window → Outer → (stream snbase : ℕ) → Store → List ℕ
 parityOf w o stream snbase s =
-    parityPacket o stream (w .l) (w .d) (w .p) snbase (map (timestampAt s) (group w stream snbase)) (map (payloadAt w s) (group w stream snbase))
+    parityPacket o stream (w .l) (w .d) (w .p) snbase (xorContents (w .p) (contentAt w s) (group w stream snbase))
 
 -- writing the parity of a group: its datagram, or the refusal; store and window value stay (01, "Taking a packet in")
 unfoldable pub wroteParity : (stream : ℕ) → Window → (snbase : ℕ) → Outer → Store → (out : List ℕ) → Written

@@ -1,8 +1,9 @@
-pub mod Datagram
 pub mod Content
+pub mod Datagram
 pub mod State
 pub mod Settle
 pub mod Accept
 pub mod Call
 pub mod Standing
+pub mod Passed
 pub mod Rest

@@ -47,16 +47,16 @@ waits-not false n h = refl
 
 module _ (w : Window) (s : Store) (o : InOrder w s) where
   pub order-rest : (b : ℕ) → settle (scene w s b) ≡ scene w s b
-  order-rest b = settle-rest (scene w s b) (none-ready (scene w s b) (λ r l. waits-not (inUse s r) (length (missingAt w s r)) (λ u. o .records-wait r l u .waits-for)))
+  order-rest b = settle-rest (scene w s b) (none-ready (scene w s b) (λ r l. waits-not (inUse w s r) (length (missingAt w s r)) (λ u. o .records-wait r l u .waits-for)))
 
   -- one packet more in hand, with enough of its group missing
   pub held-rest : (f stream snbase : ℕ) (c : Content) (b : ℕ) → leastMissing ≤ length (missing (s .marks) (group w stream snbase)) → f < length (s .records) → settle (hold f stream snbase c (scene w s b)) ≡ hold f stream snbase c (scene w s b)
-  held-rest f stream snbase c b many fits = settle-rest x (none-ready x (λ r l. waits-not (inUse (x .store) r) (length (missingAt (x .window) (x .store) r)) (waits r l (eqb r f) refl)))
+  held-rest f stream snbase c b many fits = settle-rest x (none-ready x (λ r l. waits-not (inUse (x .window) (x .store) r) (length (missingAt (x .window) (x .store) r)) (waits r l (eqb r f) refl)))
     where
       x : State
       x = hold f stream snbase c (scene w s b)
 
-      waits : (r : ℕ) → r < w .k → (t : Bool) → eqb r f ≡ t → inUse (x .store) r ≡ true → leastMissing ≤ length (missingAt (x .window) (x .store) r)
+      waits : (r : ℕ) → r < w .k → (t : Bool) → eqb r f ≡ t → inUse (x .window) (x .store) r ≡ true → leastMissing ≤ length (missingAt (x .window) (x .store) r)
       waits r l true e u = rw (eqb-true r f e, getD-set-same (s .records) f (heldRecord stream snbase c) blank fits) many
       waits r l false e u =
           let other = getD-set-other (s .records) f r (heldRecord stream snbase c) blank (eqb-false r f e) in

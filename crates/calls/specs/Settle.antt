@@ -8,13 +8,14 @@ use Rattle.sequence.specs.Lists.{headOr}
 use Rattle.peel.specs.Rest.{rounds}
 use Rattle.window.specs.Store.{recordAt}
 use Rattle.window.specs.Group.{position}
+use Rattle.window.specs.Limits.{rows}
 use Rattle.window.specs.Order.{inUse, groupAt, missingAt}
 use Rattle.calls.specs.Content.{recoveryAt}
 use Rattle.calls.specs.State.{State, rebuild, release}
 
 -- a record in use with exactly one packet of its group missing
 abbrev pub ready : State → ℕ → Bool
-ready x r = inUse (x .store) r && eqb (length (missingAt (x .window) (x .store) r)) 1
+ready x r = inUse (x .window) (x .store) r && eqb (length (missingAt (x .window) (x .store) r)) 1
 
 -- the order of rebuilding: by the position of SNBase, a column before a row
 abbrev pub rank : State → ℕ → ℕ
@@ -32,11 +33,11 @@ nextBelow x (suc r) = better x r (nextBelow x r)
 
 -- the record that rebuilds next
 unfoldable pub next : State → Option ℕ
-next x = nextBelow x (x .window .k)
+next x = nextBelow x (rows (x .window))
 
 -- a record in use with none missing is spent
 abbrev pub spent : State → ℕ → Bool
-spent x r = inUse (x .store) r && eqb (length (missingAt (x .window) (x .store) r)) 0
+spent x r = inUse (x .window) (x .store) r && eqb (length (missingAt (x .window) (x .store) r)) 0
 
 -- a spent record is released
 abbrev pub releaseSpent : ℕ → State → State
@@ -49,7 +50,7 @@ releaseBelow (suc r) x = releaseSpent r (releaseBelow r x)
 
 -- every spent record is released
 unfoldable pub releaseAll : State → State
-releaseAll x = releaseBelow (x .window .k) x
+releaseAll x = releaseBelow (rows (x .window)) x
 
 -- a record rebuilds its missing packet
 abbrev pub rebuildBy : ℕ → State → State

@@ -7,7 +7,7 @@ use lib.ListN.{take, drop, replicate}
 use Rattle.answer.specs.Number.{numberOf, countOf}
 use Rattle.answer.specs.First.{first}
 use Rattle.peel.specs.Rest.{rounds}
-use Rattle.xor.specs.Xor.{xorAll}
+use Rattle.xor.specs.Xor.{xorAll, xorPayloads}
 use Rattle.xor.specs.Same.{same, same-eq}
 use Rattle.sequence.specs.Lists.{and-split as both}
 use Rattle.sequence.specs.Wrap.{numberAt, members}
@@ -65,7 +65,7 @@ zeros = replicate 188 0
 
 -- the parity packet of a group of four packets with these timestamps and payloads of zeros
 parity : (timestamps : List ℕ) (stream snbase : ℕ) → List ℕ
-parity timestamps stream snbase = parityPacket outer stream 4 4 188 snbase timestamps (zeros ∷ zeros ∷ zeros ∷ zeros ∷ [])
+parity timestamps stream snbase = parityPacket outer stream 4 4 188 snbase (record { timestamp = xorAll timestamps; payload = xorPayloads 188 (zeros ∷ zeros ∷ zeros ∷ zeros ∷ []) })
 
 -- the number that a parity packet is answered with on that window
 offer : (stream snbase : ℕ) → ℕ
@@ -73,7 +73,7 @@ offer stream snbase = numberOf (offeredParity stream (grid .window) (parity time
 
 -- a media packet is offered, with a payload of zeros
 media : (number timestamp : ℕ) → Outcome → Outcome
-media number timestamp x = offeredMedia (x .window) (mediaPacket number timestamp 0 zeros) (x .store)
+media number timestamp x = offeredMedia (x .window) (mediaPacket number 0 (record { timestamp = timestamp; payload = zeros })) (x .store)
 
 -- case 4's group on that window, the packet with 4,000 missing, then its column parity
 rebuilt : Outcome

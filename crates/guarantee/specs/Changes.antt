@@ -1,7 +1,7 @@
 -- The single changes that a call makes to the store (calls' State.antt): what each does to the view, and that it leaves the store in order.
 use mathlib.Core.Path.{_≡_, refl, sym, ap, _∙_}
 use mathlib.Core.Logic.{_≢_, _⊎_, inl, inr}
-use mathlib.Core.Bool.{true, false, true≢false}
+use mathlib.Core.Bool.{true, false, not, cond, _&&_, true≢false}
 use mathlib.Core.Option.{none, some}
 use mathlib.Core.List.{List}
 use Prim.Native.Nat.{ℕ, suc, _+_, _*_, _<_, _≤_}
@@ -9,26 +9,27 @@ use native.Mathlib.Decide.{ℕ-discrete}
 use native.Mathlib.Omega.{arith}
 use lib.ListN.{length, getD, set, length-set}
 use lib.Seq.{getD-set-same, getD-set-other, length-paste}
-use lib.Dec.{eqb}
+use lib.Dec.{eqb, ltb}
 use borrow.Author.Tests.{eqb-true, ne-eqb}
 use Rattle.sequence.specs.Lists.{upTo, count}
 use Rattle.window.specs.declared.Record.{Record}
 use Rattle.window.specs.declared.Window.{Window}
 use Rattle.window.specs.Record.{blank}
+use Rattle.window.specs.Limits.{rows}
 use Rattle.window.specs.Bounds.{Sized}
-use Rattle.window.specs.Store.{Store, parityAt, recordAt}
+use Rattle.window.specs.Store.{Store, recordAt}
 use Rattle.window.specs.Group.{isMissing}
-use Rattle.window.specs.Order.{isPresent, used, inUse, groupAt}
-use Rattle.calls.specs.Content.{Content, recoveryAt}
+use Rattle.window.specs.Order.{isPresent, usedBy, inUse, groupAt}
+use Rattle.calls.specs.Content.{Content, contentAt, recoveryAt}
 use Rattle.calls.specs.State.{put, putRecord}
 use Rattle.peel.specs.Peel.{View, gone, Keeps}
 use Rattle.guarantee.specs.Ranges.{count-raise, count-lower}
-use Rattle.guarantee.specs.Packets.{Packet, packetOf, part-fits, part-same, part-other}
+use Rattle.guarantee.specs.Packets.{packetOf, part-fits, part-same, part-other}
 use Rattle.guarantee.specs.View.{Limits, checkAt, Shaped, once, slotAt, Held, slot-present, Good, Missing}
 
 -- ---- a slot is filled
 
-module _ {K X : Type 0} (s t : View K X) (i : ℕ) (x : X) (empty : s .slot i ≡ none) (filled : t .slot i ≡ some x) (others : (j : ℕ) → j ≢ i → t .slot j ≡ s .slot j) where
+module _ {K C X : Type 0} (s t : View K C X) (i : ℕ) (x : X) (empty : s .slot i ≡ none) (filled : t .slot i ≡ some x) (others : (j : ℕ) → j ≢ i → t .slot j ≡ s .slot j) where
   -- every packet is kept
   pub fill-keeps : Keeps s t
   fill-keeps j y e = go (ℕ-discrete j i)
@@ -64,24 +65,30 @@ module _ {w : Window} {a u : ℕ} {s : Store} (G : Good w a u s) (i : ℕ) (c : 
   mark-other : (j : ℕ) → j ≢ i → getD (put w s i c .marks) j 0 ≡ getD (s .marks) j 0
   mark-other j n = getD-set-other (s .marks) i j 1 0 n
 
+  -- the position has the content
+  content-same : contentAt w (put w s i c) i ≡ c
+  content-same = rw (getD-set-same (s .timestamps) i (c .timestamp) 0 (omega (arith, G .fits .timestamps-long)), part-same (s .media) i (w .p) (c .payload) media-room hp)
+
+  -- the other contents stay
+  content-other : (j : ℕ) → j ≢ i → contentAt w (put w s i c) j ≡ contentAt w s j
+  content-other j n = rw (getD-set-other (s .timestamps) i j (c .timestamp) 0 n, part-other (s .media) i (w .p) (c .payload) media-room hp j n)
+
   -- its slot has the packet
   pub put-filled : slotAt w (put w s i c) i ≡ some (packetOf c)
-  put-filled =
-      slot-present w (put w s i c) i hi (rw mark-same)
-      ∙ ap some (rw (getD-set-same (s .timestamps) i (c .timestamp) 0 (omega (arith, G .fits .timestamps-long)), part-same (s .media) i (w .p) (c .payload) media-room hp))
+  put-filled = slot-present w (put w s i c) i hi (rw mark-same) ∙ ap (λ x. some (packetOf x)) content-same
 
   -- the other slots stay
   pub put-others : (j : ℕ) → j ≢ i → slotAt w (put w s i c) j ≡ slotAt w s j
   unfolding slotAt
-  put-others j n = rw (mark-other j n, getD-set-other (s .timestamps) i j (c .timestamp) 0 n, part-other (s .media) i (w .p) (c .payload) media-room hp j n)
+  put-others j n = rw (mark-other j n) (ap (λ x. cond (ltb j (w .n) && not (isMissing (s .marks) j)) (some (packetOf x)) none) (content-other j n))
 
   -- no record changes
-  pub put-held : (k : ℕ × ℕ) (v : Packet) → Held w s k v → Held w (put w s i c) k v
-  put-held k v h = record { at = h .at; below = h .below; used = h .used; names = h .names; value = h .value }
+  pub put-held : (k : ℕ × ℕ) (v : Content) → Held w s k v → Held w (put w s i c) k v
+  put-held k v h = record { at = h .at; below = h .below; used = h .used; names = h .names; carries = h .carries }
 
   -- and none comes in
-  pub put-was-held : (k : ℕ × ℕ) (v : Packet) → Held w (put w s i c) k v → Held w s k v
-  put-was-held k v h = record { at = h .at; below = h .below; used = h .used; names = h .names; value = h .value }
+  pub put-was-held : (k : ℕ × ℕ) (v : Content) → Held w (put w s i c) k v → Held w s k v
+  put-was-held k v h = record { at = h .at; below = h .below; used = h .used; names = h .names; carries = h .carries }
 
   -- the store is as long as before
   fits-put : Sized w (put w s i c)
@@ -119,10 +126,10 @@ module _ {w : Window} {a u : ℕ} {s : Store} (G : Good w a u s) (i : ℕ) (c : 
 
 -- ---- a record is written
 
-module _ {w : Window} {a u : ℕ} {s : Store} (G : Good w a u s) (r : ℕ) (v : Record) (payload : List ℕ) (hr : r < w .k) (hp : length payload ≡ w .p) where
+module _ {w : Window} {a u : ℕ} {s : Store} (G : Good w a u s) (r : ℕ) (v : Record) (payload : List ℕ) (hr : r < rows w) (hp : length payload ≡ w .p) where
   -- the payload of a record has its place in the store
   parity-room : r * w .p + w .p ≤ length (s .parity)
-  parity-room = let z = part-fits r (w .k) (w .p) hr in omega (arith, G .fits .parity-long)
+  parity-room = let z = part-fits r (rows w) (w .p) hr in omega (arith, G .fits .parity-long)
 
   -- no slot changes
   pub record-slot : (i : ℕ) → slotAt w (putRecord w s r v payload) i ≡ slotAt w s i
@@ -133,9 +140,9 @@ module _ {w : Window} {a u : ℕ} {s : Store} (G : Good w a u s) (r : ℕ) (v : 
   pub record-same : recordAt (putRecord w s r v payload) r ≡ v
   record-same = getD-set-same (s .records) r v blank (omega (arith, G .fits .records-long))
 
-  -- and so is its payload
-  pub parity-same : parityAt w (putRecord w s r v payload) r ≡ payload
-  parity-same = part-same (s .parity) r (w .p) payload parity-room hp
+  -- and holds the recovery
+  pub recovery-same : recoveryAt w (putRecord w s r v payload) r ≡ record { timestamp = v .«timestamp_recovery»; payload = payload }
+  recovery-same = rw (record-same, part-same (s .parity) r (w .p) payload parity-room hp)
 
   -- the other records stay
   pub record-other : (q : ℕ) → q ≢ r → recordAt (putRecord w s r v payload) q ≡ recordAt s q
@@ -146,23 +153,23 @@ module _ {w : Window} {a u : ℕ} {s : Store} (G : Good w a u s) (r : ℕ) (v : 
   recovery-other q n = rw (record-other q n, part-other (s .parity) r (w .p) payload parity-room hp q n)
 
   -- a check in another record stays in hand
-  pub record-held : (k : ℕ × ℕ) (x : Packet) (h : Held w s k x) → h .at ≢ r → Held w (putRecord w s r v payload) k x
+  pub record-held : (k : ℕ × ℕ) (x : Content) (h : Held w s k x) → h .at ≢ r → Held w (putRecord w s r v payload) k x
   record-held k x h n = record {
     at = h .at;
     below = h .below;
     used = rw (record-other (h .at) n) (h .used);
     names = rw (record-other (h .at) n) (h .names);
-    value = h .value ∙ sym (ap packetOf (recovery-other (h .at) n));
+    carries = recovery-other (h .at) n ∙ h .carries;
   }
 
   -- and was in hand
-  pub record-was-held : (k : ℕ × ℕ) (x : Packet) (h : Held w (putRecord w s r v payload) k x) → h .at ≢ r → Held w s k x
+  pub record-was-held : (k : ℕ × ℕ) (x : Content) (h : Held w (putRecord w s r v payload) k x) → h .at ≢ r → Held w s k x
   record-was-held k x h n = record {
     at = h .at;
     below = h .below;
     used = rw (record-other (h .at) n) at (h .used);
     names = rw (record-other (h .at) n) at (h .names);
-    value = h .value ∙ ap packetOf (recovery-other (h .at) n);
+    carries = sym (recovery-other (h .at) n) ∙ h .carries;
   }
 
   -- the store is as long as before
@@ -176,7 +183,7 @@ module _ {w : Window} {a u : ℕ} {s : Store} (G : Good w a u s) (r : ℕ) (v : 
   }
 
   -- what holds of the one written and of each of the others holds of each record
-  pub of-each : (P : Record → Type 0) → P v → ((q : ℕ) → q < w .k → q ≢ r → P (recordAt s q)) → (q : ℕ) → q < w .k → P (recordAt (putRecord w s r v payload) q)
+  pub of-each : (P : Record → Type 0) → P v → ((q : ℕ) → q < rows w → q ≢ r → P (recordAt s q)) → (q : ℕ) → q < rows w → P (recordAt (putRecord w s r v payload) q)
   of-each P new old q h = go (ℕ-discrete q r)
     where
       go : Dec (q ≡ r) → P (recordAt (putRecord w s r v payload) q)
@@ -184,14 +191,14 @@ module _ {w : Window} {a u : ℕ} {s : Store} (G : Good w a u s) (r : ℕ) (v : 
       go (no z) = rw (record-other q z) (old q h z)
 
   -- the store stays in order, where the record written is not in use or of good shape and of a group that no other holds
-  pub record-good : (c : ℕ) → v .«in_use» ≤ 1 → (used v ≡ true → Shaped w (v .stream, v .snbase))
-      → (used v ≡ true → (q : ℕ) → q < w .k → inUse s q ≡ true → q ≢ r → checkAt s q ≡ (v .stream, v .snbase) → ⊥)
-      → c ≡ count (inUse (putRecord w s r v payload)) (upTo (w .k)) → Good w a c (putRecord w s r v payload)
+  pub record-good : (c : ℕ) → v .«in_use» ≤ 1 → (usedBy w v ≡ true → Shaped w (v .stream, v .snbase))
+      → (usedBy w v ≡ true → (q : ℕ) → q < rows w → inUse w s q ≡ true → q ≢ r → checkAt s q ≡ (v .stream, v .snbase) → ⊥)
+      → c ≡ count (inUse w (putRecord w s r v payload)) (upTo (rows w)) → Good w a c (putRecord w s r v payload)
   record-good c small fine alone counted = record {
     fits = fits-record;
     mark = G .mark;
     use-mark = of-each (λ x. x .«in_use» ≤ 1) small (λ q h n. G .use-mark q h);
-    shaped = of-each (λ x. used x ≡ true → Shaped w (x .stream, x .snbase)) fine (λ q h n. G .shaped q h);
+    shaped = of-each (λ x. usedBy w x ≡ true → Shaped w (x .stream, x .snbase)) fine (λ q h n. G .shaped q h);
     apart = λ q p hq hp eq ep. unlike q p hq hp eq ep (ℕ-discrete q r) (ℕ-discrete p r);
     presents = G .presents;
     in-use = counted;
@@ -200,10 +207,10 @@ module _ {w : Window} {a u : ℕ} {s : Store} (G : Good w a u s) (r : ℕ) (v : 
       t : Store
       t = putRecord w s r v payload
 
-      clash : (q p : ℕ) → q ≡ r → p ≢ r → p < w .k → inUse t q ≡ true → inUse t p ≡ true → checkAt t q ≡ checkAt t p → ⊥
+      clash : (q p : ℕ) → q ≡ r → p ≢ r → p < rows w → inUse w t q ≡ true → inUse w t p ≡ true → checkAt t q ≡ checkAt t p → ⊥
       clash q p z n hp eq ep e = alone (rw (z, record-same) at eq) p hp (rw (record-other p n) at ep) n (sym (rw (z, record-same, record-other p n) at e))
 
-      unlike : (q p : ℕ) → q < w .k → p < w .k → inUse t q ≡ true → inUse t p ≡ true → Dec (q ≡ r) → Dec (p ≡ r) → checkAt t q ≡ checkAt t p → q ≡ p
+      unlike : (q p : ℕ) → q < rows w → p < rows w → inUse w t q ≡ true → inUse w t p ≡ true → Dec (q ≡ r) → Dec (p ≡ r) → checkAt t q ≡ checkAt t p → q ≡ p
       unlike q p hq hp eq ep (yes y) (yes z) e = y ∙ sym z
       unlike q p hq hp eq ep (yes y) (no z) e = absurd (clash q p y z hp eq ep e)
       unlike q p hq hp eq ep (no y) (yes z) e = absurd (clash p q z y hq ep eq (sym e))

@@ -13,9 +13,10 @@ use Rattle.rtp.specs.Rtp.{sequenceNumber}
 use Rattle.rtp.specs.Fec.{column, row, snbase}
 use Rattle.rtp.specs.Faults.{noRow}
 use Rattle.window.specs.declared.Window.{Window}
-use Rattle.window.specs.Limits.{width}
-use Rattle.window.specs.Store.{Store, payloadAt, timestampAt}
+use Rattle.window.specs.Limits.{width, room}
+use Rattle.window.specs.Store.{Store}
 use Rattle.window.specs.Group.{group, inside}
+use Rattle.calls.specs.Content.{Content, xorContents, contentAt}
 use Rattle.calls.specs.Datagram.{mediaPacket, Outer, parityPacket}
 use Rattle.calls.specs.Call.{Outcome, asked, opened, offeredMedia, offeredColumn, offeredRow}
 
@@ -47,25 +48,27 @@ run x (o ∷ offers) = run (offered o (x .window) (x .store)) offers
 
 -- ---- "each an unaltered packet of one stretch as document 01 defines it, on its own port"
 
--- a stretch: n media packets, one for each position, with any timestamp and P payload bytes
-pub record Stretch (w : Window) : Type 0 where
-  pub timestamp : ℕ → ℕ
-  pub payload : ℕ → List ℕ
-  pub timestamp-fits : (i : ℕ) → i < w .n → timestamp i < 2 ^ 32
-  pub size : (i : ℕ) → i < w .n → length (payload i) ≡ w .p
-  pub bytes : (i : ℕ) → i < w .n → (b : ℕ) → List·Memᴰ b (payload i) → b < 256
+-- a stretch: media packets, one for each position, by their timestamp and payload; a packet's number is its position's
+abbrev pub Stretch : Type 0
+Stretch = ℕ → Content
+
+-- "a window that the stretch fills": there are n of them, each with any timestamp and P payload bytes
+pub record Fills (w : Window) (t : Stretch) : Type 0 where
+  pub timestamp-fits : (i : ℕ) → i < w .n → t i .timestamp < 2 ^ 32
+  pub size : (i : ℕ) → i < w .n → length (t i .payload) ≡ w .p
+  pub bytes : (i : ℕ) → i < w .n → (b : ℕ) → List·Memᴰ b (t i .payload) → b < 256
 
 -- an unaltered media packet: the datagram of one of them, with its position's number; any SSRC will do
-pub record UnalteredMedia (w : Window) (t : Stretch w) (datagram : List ℕ) : Type 0 where
+pub record UnalteredMedia (w : Window) (t : Stretch) (datagram : List ℕ) : Type 0 where
   pub place : ℕ
   pub ssrc : ℕ
   pub in-window : place < w .n
   pub ssrc-fits : ssrc < 2 ^ 32
-  pub is : datagram ≡ mediaPacket (numberAt width (w .base) place) (t .timestamp place) ssrc (t .payload place)
+  pub is : datagram ≡ mediaPacket (numberAt width (w .base) place) ssrc (t place)
 
 -- an unaltered parity packet: the datagram of a group of the stream, recovery taken over the stretch (a row only where L ≥ 4);
 -- "each group lies wholly inside the window"; any RTP sequence number, timestamp and SSRC will do
-pub record UnalteredParity (w : Window) (t : Stretch w) (stream : ℕ) (datagram : List ℕ) : Type 0 where
+pub record UnalteredParity (w : Window) (t : Stretch) (stream : ℕ) (datagram : List ℕ) : Type 0 where
   pub snbase : ℕ
   pub outer : Outer
   pub snbase-fits : snbase < 2 ^ 16
@@ -74,16 +77,16 @@ pub record UnalteredParity (w : Window) (t : Stretch w) (stream : ℕ) (datagram
   pub ssrc-fits : outer .ssrc < 2 ^ 32
   pub permitted : noRow stream (w .l) ≡ false
   pub in-window : inside w stream snbase ≡ true
-  pub is : datagram ≡ parityPacket outer stream (w .l) (w .d) (w .p) snbase (map (t .timestamp) (group w stream snbase)) (map (t .payload) (group w stream snbase))
+  pub is : datagram ≡ parityPacket outer stream (w .l) (w .d) (w .p) snbase (xorContents (w .p) t (group w stream snbase))
 
 -- an unaltered packet on its own port
-abbrev pub UnalteredOn : (w : Window) → Stretch w → Port → List ℕ → Type 0
+abbrev pub UnalteredOn : Window → Stretch → Port → List ℕ → Type 0
 UnalteredOn w t mediaPort datagram = UnalteredMedia w t datagram
 UnalteredOn w t columnPort datagram = UnalteredParity w t column datagram
 UnalteredOn w t rowPort datagram = UnalteredParity w t row datagram
 
 -- an offer of an unaltered packet
-abbrev pub Unaltered : (w : Window) → Stretch w → Offer → Type 0
+abbrev pub Unaltered : Window → Stretch → Offer → Type 0
 Unaltered w t o = UnalteredOn w t (o .port) (o .datagram)
 
 -- ---- which packet an offer is, by its bytes; "two groups are the same if stream and SNBase are"
@@ -103,9 +106,13 @@ nameOn rowPort datagram = parityName row (snbase datagram)
 abbrev pub nameOf : Offer → Name
 nameOf o = nameOn (o .port) (o .datagram)
 
+-- the packets of a list
+abbrev pub namesOf : List Offer → List Name
+namesOf offers = map nameOf offers
+
 -- "a packet is received if it's in the list, whatever its offer answered"
-abbrev pub Received : List Offer → Name → Type 0
-Received offers x = List·Memᴰ x (map nameOf offers)
+abbrev pub Received : List Name → Name → Type 0
+Received names x = List·Memᴰ x names
 
 -- ---- "the different groups are no more than there is parity room"
 
@@ -114,10 +121,10 @@ abbrev pub groupNamed : Name → List (ℕ × ℕ)
 groupNamed (mediaName number) = []
 groupNamed (parityName stream snbase) = (stream, snbase) ∷ []
 
--- the groups of the parity packets of a list
-abbrev pub groupsOf : List Offer → List (ℕ × ℕ)
+-- the groups of the parity packets among them
+abbrev pub groupsOf : List Name → List (ℕ × ℕ)
 groupsOf [] = []
-groupsOf (o ∷ offers) = groupNamed (nameOf o) ++ groupsOf offers
+groupsOf (x ∷ names) = groupNamed x ++ groupsOf names
 
 -- whether a group is in a list
 abbrev pub listed : ℕ × ℕ → List (ℕ × ℕ) → Bool
@@ -129,18 +136,19 @@ unfoldable pub different : List (ℕ × ℕ) → List (ℕ × ℕ)
 different [] = []
 different (x ∷ l) = cond (listed x l) (different l) (x ∷ different l)
 
--- the different groups of the parity packets of a list
-abbrev pub distinctGroups : List Offer → List (ℕ × ℕ)
-distinctGroups offers = different (groupsOf offers)
+-- the different groups of the parity packets among them
+abbrev pub distinctGroups : List Name → List (ℕ × ℕ)
+distinctGroups names = different (groupsOf names)
 
 -- ---- "the list starts on a freshly opened window that the stretch fills"
 
--- what is given: an opening that answered 0, and a list of unaltered packets of no more groups than there are records
-pub record Given (w : Window) (lent : Store) (t : Stretch w) (offers : List Offer) : Type 0 where
+-- what is given: an opening that answered 0, and a list of unaltered packets of no more groups than there is room
+pub record Given (w : Window) (lent : Store) (t : Stretch) (offers : List Offer) : Type 0 where
   pub base-fits : w .base < 2 ^ 16
+  pub fills : Fills w t
   pub fresh : opened w lent .answer ≡ Done 0
   pub unaltered : (o : Offer) → List·Memᴰ o offers → Unaltered w t o
-  pub room : length (distinctGroups offers) ≤ w .k
+  pub few-groups : length (distinctGroups (namesOf offers)) ≤ room w
 
 -- ---- "after every such list this holds"
 
@@ -149,36 +157,36 @@ abbrev pub markAt : Store → ℕ → ℕ
 markAt s i = getD (s .marks) i 0
 
 -- "some set of the stretch's media packets, none of them received, of which no received parity packet covers exactly one"
-pub record Hidden (w : Window) (offers : List Offer) (S : ℕ → Bool) : Type 0 where
+pub record Hidden (w : Window) (received : List Name) (S : ℕ → Bool) : Type 0 where
   pub of-stretch : (i : ℕ) → S i ≡ true → i < w .n
-  pub unreceived : (i : ℕ) → S i ≡ true → ¬ Received offers (mediaName (numberAt width (w .base) i))
-  pub never-one : (stream snbase : ℕ) → Received offers (parityName stream snbase) → count S (group w stream snbase) ≢ 1
+  pub unreceived : (i : ℕ) → S i ≡ true → ¬ Received received (mediaName (numberAt width (w .base) i))
+  pub never-one : (stream snbase : ℕ) → Received received (parityName stream snbase) → count S (group w stream snbase) ≢ 1
 
 -- "every packet present equals the one sent in number, timestamp and payload; a packet is missing exactly when it belongs to such a set"
-pub record Demand3 (w : Window) (t : Stretch w) (offers : List Offer) (s : Store) : Type 0 where
+pub record Demand3 (w : Window) (t : Stretch) (received : List Name) (s : Store) : Type 0 where
   pub mark : (i : ℕ) → i < w .n → (markAt s i ≡ 0) ⊎ (markAt s i ≡ 1)
-  pub present : (i : ℕ) → i < w .n → markAt s i ≡ 1 → (timestampAt s i ≡ t .timestamp i) × (payloadAt w s i ≡ t .payload i)
-  pub missing : (i : ℕ) → i < w .n → (markAt s i ≡ 0) ↔ ((S : ℕ → Bool) × Hidden w offers S × (S i ≡ true))
+  pub present : (i : ℕ) → i < w .n → markAt s i ≡ 1 → contentAt w s i ≡ t i
+  pub missing : (i : ℕ) → i < w .n → (markAt s i ≡ 0) ↔ ((S : ℕ → Bool) × Hidden w received S × (S i ≡ true))
 
--- ---- the claims, proved in Theorem.antt: demand3 and demand3-same
+-- ---- the claims, proved in Theorem.antt: demand3 and demand3-same. Start.antt has them from any store in order
 
 -- demand 3 of any list on any freshly opened window
 abbrev pub Claim : Type 0
 Claim =
-    (base ssrc l d p n k : ℕ) (lent : Store) (t : Stretch (asked base ssrc l d p n k)) (offers : List Offer)
+    (base ssrc l d p n k : ℕ) (lent : Store) (t : Stretch) (offers : List Offer)
     → Given (asked base ssrc l d p n k) lent t offers
-    → Demand3 (asked base ssrc l d p n k) t offers (run (opened (asked base ssrc l d p n k) lent) offers .store)
+    → Demand3 (asked base ssrc l d p n k) t (namesOf offers) (run (opened (asked base ssrc l d p n k) lent) offers .store)
 
 -- "two such lists of the same packets, in whatever orders and with whatever repeats"
-abbrev pub SamePackets : List Offer → List Offer → Type 0
-SamePackets offers others = (x : Name) → Received offers x ↔ Received others x
+abbrev pub SamePackets : List Name → List Name → Type 0
+SamePackets names others = (x : Name) → Received names x ↔ Received others x
 
 -- "from windows opened with the same numbers, leave the same packets present"; each list has its stretch, which may be the same
 abbrev pub ClaimSame : Type 0
 ClaimSame =
-    (base ssrc l d p n k : ℕ) (lent other : Store) (t u : Stretch (asked base ssrc l d p n k)) (offers others : List Offer)
+    (base ssrc l d p n k : ℕ) (lent other : Store) (t u : Stretch) (offers others : List Offer)
     → Given (asked base ssrc l d p n k) lent t offers
     → Given (asked base ssrc l d p n k) other u others
-    → SamePackets offers others
+    → SamePackets (namesOf offers) (namesOf others)
     → (i : ℕ) → i < n
     → markAt (run (opened (asked base ssrc l d p n k) lent) offers .store) i ≡ markAt (run (opened (asked base ssrc l d p n k) other) others .store) i

@@ -12,17 +12,17 @@ use Rattle.xor.specs.Xor.{length-zip}
 use Rattle.sequence.specs.Lists.{upTo, keep, count, headOr}
 use Rattle.window.specs.declared.Window.{Window}
 use Rattle.window.specs.Record.{blank}
+use Rattle.window.specs.Limits.{rows}
 use Rattle.window.specs.Store.{Store, payloadAt, recordAt}
 use Rattle.window.specs.Group.{isMissing, missing, present}
 use Rattle.window.specs.Order.{inUse, missingAt}
-use Rattle.calls.specs.Content.{Content, contentOver}
+use Rattle.calls.specs.Content.{Content, xorContents, contentAt, contentOver}
 use Rattle.calls.specs.State.{put, putRecord}
-use Rattle.calls.specs.Call.{contentAt}
 use Rattle.peel.specs.Group.{total, None, One, one-count, none-count, none-insert}
-use Rattle.peel.specs.Peel.{gone, miss, Keeps, Full, Rebuild, Step}
+use Rattle.peel.specs.Peel.{gone, miss, Keeps, Full, Rebuild, Spoilt, Step}
 use Rattle.guarantee.specs.Ranges.{count-raise, count-keep}
-use Rattle.guarantee.specs.Packets.{Packet, xored, zeros, packetOf, xorContents, packet-xor, packet-total, length-payloads, length-part}
-use Rattle.guarantee.specs.View.{groupOf, checkAt, member-lt, packetAt, slotAt, Held, view, slot-present, slot-missing, miss-count, Good}
+use Rattle.guarantee.specs.Packets.{xored, zeros, packetOf, packet-xor, packet-total, length-payloads, length-part}
+use Rattle.guarantee.specs.View.{groupOf, code, checkAt, member-lt, packetAt, slotAt, Held, view, slot-present, slot-missing, miss-count, Good}
 use Rattle.guarantee.specs.Changes.{fill-keeps, fill-new, put-filled, put-others, put-held, put-was-held, record-slot, record-held, record-was-held, record-same, record-other, record-good}
 
 -- ---- the one missing member of a group
@@ -71,7 +71,7 @@ pub record Solved (w : Window) (s : Store) (g : List ℕ) (v : Content) (i : ℕ
   pub empty : isMissing (s .marks) i ≡ true
   pub rest : (j : ℕ) → List·Memᴰ j (left ++ right) → slotAt w s j ≡ some (packetAt w s j)
   pub size : length (contentOver w s g v .payload) ≡ w .p
-  pub sum : packetOf (contentOver w s g v) ≡ xored (packetOf v) (total xored zeros (packetAt w s) (left ++ right))
+  pub adds : packetOf (contentOver w s g v) ≡ xored (packetOf v) (total xored zeros (packetAt w s) (left ++ right))
 
 module _ {w : Window} {a u : ℕ} {s : Store} (G : Good w a u s) where
   -- the parts of the group around the one missing
@@ -84,7 +84,7 @@ module _ {w : Window} {a u : ℕ} {s : Store} (G : Good w a u s) where
     empty = o .marked;
     rest = λ j m. slot-present w s j (inner j m) (o .rest j m);
     size = length-zip (v .payload) _ (hp ∙ sym long) ∙ hp;
-    sum = packet-xor v held (hp ∙ sym long) ∙ ap (xored (packetOf v)) (packet-total (w .p) (contentAt w s) (present (s .marks) g) sizes ∙ ap (total xored zeros (packetAt w s)) left-over);
+    adds = packet-xor v held (hp ∙ sym long) ∙ ap (xored (packetOf v)) (packet-total (w .p) (contentAt w s) (present (s .marks) g) sizes ∙ ap (total xored zeros (packetAt w s)) left-over);
   }
     where
       held : Content
@@ -135,24 +135,23 @@ module _ {w : Window} {a u : ℕ} {s : Store} (G : Good w a u s) where
     keeps = fill-keeps (view w s) (view w after) i _ (slot-missing w s i (q .empty)) filled others
 
     -- after a rebuild no member of its check is missing
-    pub rebuild-full : Full (groupOf w) (view w (rebuiltIn w s (groupOf w k) v i)) k
+    pub rebuild-full : Full (code w) (view w (rebuiltIn w s (groupOf w k) v i)) k
     rebuild-full =
         subst (None (miss (view w after))) (sym (q .is))
         (none-insert (miss (view w after)) (q .left) i (q .right) (ap gone filled) (λ j m. ap gone (keeps j _ (q .rest j m))))
 
     -- a rebuild by check k, which is one of the checks H, is a step; the store need hold only the others
-    pub step-rebuild : (H : ℕ × ℕ → Packet → Type 0) → H k (packetOf v)
-        → ((l : ℕ × ℕ) (x : Packet) → Held w s l x → H l x) → ((l : ℕ × ℕ) (x : Packet) → H l x → Held w s l x ⊎ (l ≡ k))
-        → Step (groupOf w) xored zeros (record { slot = slotAt w s; held = H }) (view w (rebuiltIn w s (groupOf w k) v i))
+    pub step-rebuild : (H : ℕ × ℕ → Content → Type 0) → H k v → ((l : ℕ × ℕ) (x : Content) → Held w s l x → H l x) → ((l : ℕ × ℕ) (x : Content) → H l x → Held w s l x ⊎ (l ≡ k))
+        → Step (code w) (record { slot = slotAt w s; held = H }) (view w (rebuiltIn w s (groupOf w k) v i))
     step-rebuild H held sub sup = record {
       keeps = keeps;
-      new = λ j y e. ⊎-elim inl (λ z. inr (k, rw (← z .0, ← z .1) r)) (fill-new (view w s) (view w after) i (packetOf content) (slot-missing w s i (q .empty)) filled others j y e);
+      new = λ j y e. ⊎-elim inl (λ z. inr (k, v, rw (← z .0, ← z .1) r)) (fill-new (view w s) (view w after) i (packetOf content) (slot-missing w s i (q .empty)) filled others j y e);
       sub = λ l y h. sub l y (put-was-held G i content (q .below) (q .size) l y h);
-      release = λ l y h. ⊎-elim (λ z. inl (put-held G i content (q .below) (q .size) l y z)) (λ z. inr (rw z rebuild-full)) (sup l y h);
+      release = λ l y h. ⊎-elim (λ z. inl (put-held G i content (q .below) (q .size) l y z)) (λ z. inr (inl (rw z rebuild-full))) (sup l y h);
     }
       where
-        r : Rebuild (groupOf w) xored zeros (record { slot = slotAt w s; held = H }) k i (packetOf content)
-        r = record { value = packetOf v; f = packetAt w s; left = q .left; right = q .right; held = held; is = q .is; rest = q .rest; sum = q .sum }
+        r : Rebuild (code w) (record { slot = slotAt w s; held = H }) k v i (packetOf content)
+        r = record { f = packetAt w s; left = q .left; right = q .right; held = held; is = q .is; missing = ap gone (slot-missing w s i (q .empty)); rest = q .rest; adds = q .adds }
 
 -- ---- a spent check
 
@@ -160,26 +159,26 @@ module _ {w : Window} {a u : ℕ} {s : Store} (G : Good w a u s) where
 abbrev pub freed : Window → Store → ℕ → Store
 freed w s r = putRecord w s r blank (replicate (w .p) 0)
 
-module _ {w : Window} {a u : ℕ} {s : Store} (G : Good w a u s) (r : ℕ) (hr : r < w .k) (used : inUse s r ≡ true) where
+module _ {w : Window} {a u : ℕ} {s : Store} (G : Good w a u s) (r : ℕ) (hr : r < rows w) (used : inUse w s r ≡ true) where
   -- zeros are a payload
   size : length {A = ℕ} (replicate (w .p) 0) ≡ w .p
   size = length-replicate (w .p) 0
 
   -- a record that is set to zero is not in use
-  freed-off : inUse (freed w s r) r ≡ false
+  freed-off : inUse w (freed w s r) r ≡ false
   freed-off = rw (record-same G r blank (replicate (w .p) 0) hr size)
 
   -- a record that is still in use is another
-  pub freed-other : (q : ℕ) → inUse (freed w s r) q ≡ true → q ≢ r
-  freed-other q e z = true≢false (sym e ∙ ap (inUse (freed w s r)) z ∙ freed-off)
+  pub freed-other : (q : ℕ) → inUse w (freed w s r) q ≡ true → q ≢ r
+  freed-other q e z = true≢false (sym e ∙ ap (inUse w (freed w s r)) z ∙ freed-off)
 
   -- the others are as they were
   pub freed-same : (q : ℕ) → q ≢ r → recordAt (freed w s r) q ≡ recordAt s q
   freed-same = record-other G r blank (replicate (w .p) 0) hr size
 
   -- one record fewer is in use
-  freed-count : u ≡ suc (count (inUse (freed w s r)) (upTo (w .k)))
-  freed-count = G .in-use ∙ count-raise (inUse (freed w s r)) (inUse s) (w .k) r hr freed-off used (λ q n. rw (freed-same q n))
+  freed-count : u ≡ suc (count (inUse w (freed w s r)) (upTo (rows w)))
+  freed-count = G .in-use ∙ count-raise (inUse w (freed w s r)) (inUse w s) (rows w) r hr freed-off used (λ q n. rw (freed-same q n))
 
   -- so the count goes down
   pub freed-fewer : u - 1 < u
@@ -190,7 +189,7 @@ module _ {w : Window} {a u : ℕ} {s : Store} (G : Good w a u s) (r : ℕ) (hr :
   freed-good = record-good G r blank (replicate (w .p) 0) hr size (u - 1) (omega arith) (λ e. absurd (true≢false (sym e))) (λ e. absurd (true≢false (sym e))) (omega (arith, freed-count))
 
   -- letting go of a check with none missing is a step
-  pub step-free : length (missingAt w s r) ≡ 0 → Step (groupOf w) xored zeros (view w s) (view w (freed w s r))
+  pub step-free : length (missingAt w s r) ≡ 0 → Step (code w) (view w s) (view w (freed w s r))
   step-free none-missing = record {
     keeps = λ i x e. slot i ∙ e;
     new = λ i x e. inl (sym (slot i) ∙ e);
@@ -201,11 +200,11 @@ module _ {w : Window} {a u : ℕ} {s : Store} (G : Good w a u s) (r : ℕ) (hr :
       slot : (i : ℕ) → slotAt w (freed w s r) i ≡ slotAt w s i
       slot = record-slot G r blank (replicate (w .p) 0) hr size
 
-      full : Full (groupOf w) (view w (freed w s r)) (checkAt s r)
+      full : Full (code w) (view w (freed w s r)) (checkAt s r)
       full j m =
           let g = groupOf w (checkAt s r) in
           ap gone (slot j) ∙ none-count (miss (view w s)) g (miss-count w s g (member-lt (G .shaped r hr used)) ∙ none-missing) j m
 
-      go : (k : ℕ × ℕ) (x : Packet) (h : Held w s k x) → Dec (h .at ≡ r) → Held w (freed w s r) k x ⊎ Full (groupOf w) (view w (freed w s r)) k
+      go : (k : ℕ × ℕ) (x : Content) (h : Held w s k x) → Dec (h .at ≡ r) → Held w (freed w s r) k x ⊎ (Full (code w) (view w (freed w s r)) k ⊎ Spoilt (code w) (view w s) k x)
       go k x h (no n) = inl (record-held G r blank (replicate (w .p) 0) hr size k x h n)
-      go k x h (yes e) = inr (rw (← (h .names), e) full)
+      go k x h (yes e) = inr (inl (rw (← (h .names), e) full))

@@ -1,7 +1,7 @@
--- A packet as the theory sees it: its timestamp, then its payload byte by byte, zero past the end; and the parts of a long list that hold payloads.
+-- A packet as the theory sees it: the cells of its content one after the other, zero past the end; and the parts of a long list that hold payloads.
 use mathlib.Core.Path.{_≡_, refl, sym, ap, _∙_, fun-ext}
 use mathlib.Core.Logic.{_≢_}
-use mathlib.Core.List.{List, [], _∷_, _++_, map, append-assoc, List·Memᴰ, List·Memᴰ·head, List·Memᴰ·tail}
+use mathlib.Core.List.{List, [], _∷_, _++_, append-assoc, List·Memᴰ, List·Memᴰ·head, List·Memᴰ·tail}
 use Prim.Native.Nat.{ℕ, zero, suc, _+_, _*_, _-_, _<_, _≤_}
 use native.Mathlib.Nat.{suc-mul, mul-le-mul-right, zero-add, suc-add}
 use native.Mathlib.Decide.{decLt}
@@ -9,12 +9,16 @@ use native.Mathlib.Omega.{arith}
 use lib.ListN.{length, getD, take, drop, replicate, length-drop, length-replicate}
 use lib.Seq.{paste, ext-getD, take-at, drop-at, take-take, take-all, drop-drop, length-take-le, drop-paste, take-nil}
 use lib.Bits.{bitXor}
-use Rattle.xor.specs.Xor.{zipXor, xorAll, xorPayloads, length-zip}
+use Rattle.xor.specs.Xor.{zipXor, length-zip}
 use Rattle.peel.specs.Group.{total}
 use Rattle.window.specs.Store.{payloadIn}
-use Rattle.calls.specs.Content.{Content}
+use Rattle.calls.specs.Content.{Content, xorContent, xorContents}
 
--- a packet: its timestamp, then its bytes
+-- the cells of a content: its timestamp, then its payload byte by byte
+abbrev pub cells : Content → List ℕ
+cells c = c .timestamp ∷ c .payload
+
+-- a packet: a number at every place
 abbrev pub Packet : Type 0
 Packet = ℕ → ℕ
 
@@ -26,48 +30,57 @@ xored = λ (x y : ℕ → ℕ) (n : ℕ). bitXor (x n) (y n)
 abbrev pub zeros : Packet
 zeros = λ n. 0
 
--- the packet of a content
+-- the packet of a content: its cells
 abbrev pub packetOf : Content → Packet
-packetOf c zero = c .timestamp
-packetOf c (suc j) = getD (c .payload) j 0
+packetOf c j = getD (cells c) j 0
 
--- two packets are one only if their timestamps are
-pub packet-timestamp : (c e : Content) → packetOf c ≡ packetOf e → c .timestamp ≡ e .timestamp
-packet-timestamp c e q = ap (λ (x : Packet). x zero) q
+-- two contents of one length are equal if their packets are
+pub packet-content : (c e : Content) → length (c .payload) ≡ length (e .payload) → packetOf c ≡ packetOf e → c ≡ e
+packet-content c e l q =
+    let z : c .timestamp ≡ e .timestamp = ap (λ (x : Packet). x zero) q in
+    let y : c .payload ≡ e .payload = ext-getD 0 (c .payload) (e .payload) l (λ j h. ap (λ (x : Packet). x (suc j)) q) in
+    λ k. record { timestamp = z k; payload = y k }
 
--- and their payloads, where these are of one length
-pub packet-payload : (c e : Content) → length (c .payload) ≡ length (e .payload) → packetOf c ≡ packetOf e → c .payload ≡ e .payload
-packet-payload c e l q = ext-getD 0 (c .payload) (e .payload) l (λ j h. ap (λ (x : Packet). x (suc j)) q)
+-- the first p places of a packet
+abbrev pub firstCells : (p : ℕ) → Packet → List ℕ
+firstCells zero x = []
+firstCells (suc p) x = x 0 ∷ firstCells p (λ j. x (suc j))
 
--- a byte of an exclusive-or of payloads of one length, also past the end
-byte-zip : (a b : List ℕ) → length a ≡ length b → (j : ℕ) → getD (zipXor a b) j 0 ≡ bitXor (getD a j 0) (getD b j 0)
-byte-zip [] [] l j = refl
-byte-zip [] (y ∷ b) l j = absurd (omega (arith, l))
-byte-zip (x ∷ a) [] l j = absurd (omega (arith, l))
-byte-zip (x ∷ a) (y ∷ b) l zero = refl
-byte-zip (x ∷ a) (y ∷ b) l (suc j) = byte-zip a b (omega (arith, l)) j
+-- the content of p bytes that a packet is of
+abbrev pub contentFrom : (p : ℕ) → Packet → Content
+contentFrom p x = record { timestamp = x 0; payload = firstCells p (λ j. x (suc j)) }
 
--- the exclusive-or of two contents
-abbrev pub xorContent : Content → Content → Content
-xorContent c e = record { timestamp = bitXor (c .timestamp) (e .timestamp); payload = zipXor (c .payload) (e .payload) }
+-- it has p bytes
+pub length-first : (p : ℕ) (x : Packet) → length (firstCells p x) ≡ p
+length-first zero x = refl
+length-first (suc p) x = ap suc (length-first p (λ j. x (suc j)))
 
--- its packet is the exclusive-or of their packets
+-- a list has its own places
+cells-from : (l : List ℕ) → firstCells (length l) (λ j. getD l j 0) ≡ l
+cells-from [] = refl
+cells-from (b ∷ l) = ap (λ k. b ∷ k) (cells-from l)
+
+-- a content is of its packet
+pub content-from : (p : ℕ) (c : Content) → length (c .payload) ≡ p → contentFrom p (packetOf c) ≡ c
+content-from p c e = rw (← e) (ap (λ l. record { timestamp = c .timestamp; payload = l }) (cells-from (c .payload)))
+
+-- a cell of an exclusive-or of lists of one length, also past the end
+cell-zip : (a b : List ℕ) → length a ≡ length b → (j : ℕ) → getD (zipXor a b) j 0 ≡ bitXor (getD a j 0) (getD b j 0)
+cell-zip [] [] l j = refl
+cell-zip [] (y ∷ b) l j = absurd (omega (arith, l))
+cell-zip (x ∷ a) [] l j = absurd (omega (arith, l))
+cell-zip (x ∷ a) (y ∷ b) l zero = refl
+cell-zip (x ∷ a) (y ∷ b) l (suc j) = cell-zip a b (omega (arith, l)) j
+
+-- the packet of an exclusive-or is the exclusive-or of the packets
 pub packet-xor : (c e : Content) → length (c .payload) ≡ length (e .payload) → packetOf (xorContent c e) ≡ xored (packetOf c) (packetOf e)
-packet-xor c e l = fun-ext at
-  where
-    at : (j : ℕ) → packetOf (xorContent c e) j ≡ bitXor (packetOf c j) (packetOf e j)
-    at zero = refl
-    at (suc j) = byte-zip (c .payload) (e .payload) l j
+packet-xor c e l = fun-ext (cell-zip (cells c) (cells e) (ap suc l))
 
--- a byte of zeros, also past the end
-byte-zeros : (p j : ℕ) → _≡_ {A = ℕ} (getD (replicate p 0) j 0) 0
-byte-zeros zero j = refl
-byte-zeros (suc p) zero = refl
-byte-zeros (suc p) (suc j) = byte-zeros p j
-
--- the exclusive-or of the contents of a group
-abbrev pub xorContents : (p : ℕ) (content : ℕ → Content) → List ℕ → Content
-xorContents p content g = record { timestamp = xorAll (map (λ j. content j .timestamp) g); payload = xorPayloads p (map (λ j. content j .payload) g) }
+-- a cell of zeros, also past the end
+cell-zeros : (p j : ℕ) → _≡_ {A = ℕ} (getD (replicate p 0) j 0) 0
+cell-zeros zero j = refl
+cell-zeros (suc p) zero = refl
+cell-zeros (suc p) (suc j) = cell-zeros p j
 
 module _ (p : ℕ) (content : ℕ → Content) where
   -- the exclusive-or of payloads of p bytes has p bytes
@@ -81,11 +94,7 @@ module _ (p : ℕ) (content : ℕ → Content) where
   -- the exclusive-or over a group is the theory's
   pub packet-total : (g : List ℕ) → ((j : ℕ) → List·Memᴰ j g → length (content j .payload) ≡ p)
       → packetOf (xorContents p content g) ≡ total xored zeros (λ j. packetOf (content j)) g
-  packet-total [] h = fun-ext at
-    where
-      at : (j : ℕ) → _≡_ {A = ℕ} (packetOf (xorContents p content []) j) 0
-      at zero = refl
-      at (suc j) = byte-zeros p j
+  packet-total [] h = fun-ext (cell-zeros (suc p))
   packet-total (j ∷ g) h =
       let rest : (i : ℕ) → List·Memᴰ i g → length (content i .payload) ≡ p = λ i m. h i (List·Memᴰ·tail m) in
       packet-xor (content j) (xorContents p content g) (h j (List·Memᴰ·head refl) ∙ sym (length-payloads g rest))

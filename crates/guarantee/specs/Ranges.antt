@@ -2,14 +2,14 @@
 use mathlib.Core.Path.{_≡_, refl, sym, ap, _∙_}
 use mathlib.Core.Logic.{_≢_, _⊎_, inl, inr, ⊎-elim}
 use mathlib.Core.Bool.{Bool, true, false, not, cond, _||_, true≢false, false≢true}
-use mathlib.Core.List.{List, [], _∷_, _++_, List·Memᴰ, List·Memᴰ·head, List·Memᴰ·tail, List·Memᴰ·not-nil, List·Memᴰ·cases-cons, List·Memᴰ·append-cases, List·Memᴰ·eq-of-singleton}
+use mathlib.Core.List.{List, [], _∷_, _++_, List·Memᴰ, List·Memᴰ·head, List·Memᴰ·tail, List·Memᴰ·not-nil, List·Memᴰ·cases-cons, List·Memᴰ·append-cases, List·Memᴰ·eq-of-singleton, Memᴰ·append-left, Memᴰ·append-right}
 use Prim.Native.Nat.{ℕ, zero, suc, _+_, _<_, _≤_}
 use native.Mathlib.Decide.{ℕ-discrete}
 use native.Mathlib.Omega.{arith}
 use borrow.Author.Tests.{eq-eqb}
 use lib.ListN.{length}
 use lib.Dec.{eqb}
-use Rattle.sequence.specs.Lists.{upTo, all, any, keep, count, headOr, count-append}
+use Rattle.sequence.specs.Lists.{upTo, all, any, keep, count, headOr, count-append, or-split}
 use Rattle.sequence.specs.Lists.{and-split as both}
 use Rattle.peel.specs.Group as Peel
 
@@ -28,12 +28,48 @@ upTo-lt zero i m = absurd (List·Memᴰ·not-nil m)
 upTo-lt (suc n) i m =
     ⊎-elim (λ a. let h = upTo-lt n i a in omega arith) (λ b. let e = List·Memᴰ·eq-of-singleton b in omega arith) (List·Memᴰ·append-cases (upTo n) m)
 
+-- and all that are
+pub upTo-mem : (n i : ℕ) → i < n → List·Memᴰ i (upTo n)
+upTo-mem zero i h = absurd (omega arith)
+upTo-mem (suc n) i h = go (ℕ-discrete i n) (upTo-mem n i)
+  where
+    go : Dec (i ≡ n) → (i < n → List·Memᴰ i (upTo n)) → List·Memᴰ i (upTo (suc n))
+    go (yes e) ih = Memᴰ·append-right (upTo n) (List·Memᴰ·head e)
+    go (no e) ih = Memᴰ·append-left (n ∷ []) (ih (omega arith))
+
 module _ (test : ℕ → Bool) where
+  -- an element that a test holds of is kept
+  pub keep-mem : (l : List ℕ) (i : ℕ) → test i ≡ true → List·Memᴰ i l → List·Memᴰ i (keep test l)
+  keep-mem [] i e m = absurd (List·Memᴰ·not-nil m)
+  keep-mem (j ∷ l) i e m = go (test j) refl m (keep-mem l i e)
+    where
+      go : (b : Bool) → test j ≡ b → List·Memᴰ i (j ∷ l) → (List·Memᴰ i l → List·Memᴰ i (keep test l)) → List·Memᴰ i (cond b (j ∷ keep test l) (keep test l))
+      go true q (List·Memᴰ·head z) ih = List·Memᴰ·head z
+      go true q (List·Memᴰ·tail n) ih = List·Memᴰ·tail (ih n)
+      go false q (List·Memᴰ·head z) ih = absurd (true≢false (sym e ∙ ap test z ∙ q))
+      go false q (List·Memᴰ·tail n) ih = ih n
+
+  -- and what is kept is an element that it holds of
+  pub mem-keep : (l : List ℕ) (i : ℕ) → List·Memᴰ i (keep test l) → List·Memᴰ i l × (test i ≡ true)
+  mem-keep [] i m = absurd (List·Memᴰ·not-nil m)
+  mem-keep (j ∷ l) i m = go (test j) refl m (mem-keep l i)
+    where
+      go : (b : Bool) → test j ≡ b → List·Memᴰ i (cond b (j ∷ keep test l) (keep test l)) → (List·Memᴰ i (keep test l) → List·Memᴰ i l × (test i ≡ true)) → List·Memᴰ i (j ∷ l) × (test i ≡ true)
+      go true q (List·Memᴰ·head z) ih = (List·Memᴰ·head z, ap test z ∙ q)
+      go true q (List·Memᴰ·tail n) ih = let h = ih n in (List·Memᴰ·tail (h .0), h .1)
+      go false q n ih = let h = ih n in (List·Memᴰ·tail (h .0), h .1)
+
   -- a test that holds of all of a list holds of each element
   pub all-of : (l : List ℕ) → all test l ≡ true → (i : ℕ) → List·Memᴰ i l → test i ≡ true
   all-of [] e i m = absurd (List·Memᴰ·not-nil m)
   all-of (j ∷ l) e i (List·Memᴰ·head q) = rw q (both (test j) (all test l) e .0)
   all-of (j ∷ l) e i (List·Memᴰ·tail m) = all-of l (both (test j) (all test l) e .1) i m
+
+  -- one that holds of none of a list holds of no element
+  pub any-none : (l : List ℕ) → any test l ≡ false → (i : ℕ) → List·Memᴰ i l → test i ≡ false
+  any-none [] e i m = absurd (List·Memᴰ·not-nil m)
+  any-none (j ∷ l) e i (List·Memᴰ·head q) = rw q (or-split (test j) (any test l) e .0)
+  any-none (j ∷ l) e i (List·Memᴰ·tail m) = any-none l (or-split (test j) (any test l) e .1) i m
 
   -- a test that holds of some element
   pub any-some : (l : List ℕ) → any test l ≡ true → (i : ℕ) × List·Memᴰ i l × (test i ≡ true)
@@ -85,10 +121,14 @@ module _ (test : ℕ → Bool) where
       go true q ih h′ = (List·Memᴰ·head refl, q)
       go false q ih h′ = let w = ih h′ in (List·Memᴰ·tail (w .0), w .1)
 
-  -- a test that holds of nothing
+  -- a test that holds of nothing keeps nothing
+  pub keep-nothing : (l : List ℕ) → ((i : ℕ) → List·Memᴰ i l → test i ≡ false) → keep test l ≡ []
+  keep-nothing [] h = refl
+  keep-nothing (j ∷ l) h = rw (h j (List·Memᴰ·head refl)) (keep-nothing l (λ i m. h i (List·Memᴰ·tail m)))
+
+  -- so its count is 0
   pub count-zero : (l : List ℕ) → ((i : ℕ) → List·Memᴰ i l → test i ≡ false) → count test l ≡ 0
-  count-zero [] h = refl
-  count-zero (j ∷ l) h = rw (h j (List·Memᴰ·head refl)) (count-zero l (λ i m. h i (List·Memᴰ·tail m)))
+  count-zero l h = ap length (keep-nothing l h)
 
 module _ (f h : ℕ → Bool) where
   -- two tests that agree on a list keep the same of it

@@ -1,4 +1,4 @@
--- Settling (calls' Settle.antt) as steps of the theory: it leaves the store in order and no check with exactly one member missing.
+-- Rounds (calls' Settle.antt) as an engine of the theory: each is a number of steps, and enough of them bring the receiver to rest.
 use mathlib.Core.Path.{_≡_, refl, sym, ap, _∙_, subst}
 use mathlib.Core.Logic.{_≢_, _⊎_, inl, inr, ⊎-elim}
 use mathlib.Core.Bool.{Bool, true, false, cond, _&&_, true≢false}
@@ -13,6 +13,7 @@ use borrow.Author.Tests.{eqb-true, eqb-false, eq-eqb}
 use Rattle.sequence.specs.Lists.{headOr}
 use Rattle.sequence.specs.Lists.{and-split as both}
 use Rattle.window.specs.declared.Window.{Window}
+use Rattle.window.specs.Limits.{rows}
 use Rattle.window.specs.Store.{Store}
 use Rattle.window.specs.Order.{inUse, groupAt, missingAt}
 use Rattle.calls.specs.Content.{Content, contentOver, recoveryAt}
@@ -20,9 +21,9 @@ use Rattle.calls.specs.State.{State, scene, recount, rebuild, release}
 use Rattle.calls.specs.Settle.{ready, rank, better, nextBelow, next, releaseSpent, releaseBelow, releaseAll, rebuildBy, roundBy, round}
 use Rattle.peel.specs.Group.{count-none}
 use Rattle.peel.specs.Peel.{gone, miss, Steps, stop, go-on}
-use Rattle.peel.specs.Rest.{Still, rounds, steps-then, still-steps}
-use Rattle.guarantee.specs.Packets.{xored, zeros, length-part}
-use Rattle.guarantee.specs.View.{groupOf, checkAt, member-lt, Held, view, miss-count, Good, Missing, held-count}
+use Rattle.peel.specs.Rest.{Still, Engine, steps-then}
+use Rattle.guarantee.specs.Packets.{length-part}
+use Rattle.guarantee.specs.View.{code, checkAt, member-lt, Held, view, miss-count, Good, Missing, held-count}
 use Rattle.guarantee.specs.Changes.{put-good}
 use Rattle.guarantee.specs.Moves.{single, Solved, solved, rebuiltIn, rebuild-full, step-rebuild, freed, freed-other, freed-same, freed-fewer, freed-good, step-free}
 
@@ -94,14 +95,14 @@ pub record Freed (w : Window) (a u : ℕ) (s : Store) (c m : ℕ) (y : State) : 
   pub store : Store
   pub is : y ≡ at w a used store c
   pub good : Good w a used store
-  pub steps : Steps (groupOf w) xored zeros (view w s) (view w store)
+  pub steps : Steps (code w) (view w s) (view w store)
   pub spent : ((store ≡ s) × (used ≡ u)) ⊎ (used < u)
-  pub least : (r : ℕ) → r < m → inUse store r ≡ true → 1 ≤ length (missingAt w store r)
+  pub least : (r : ℕ) → r < m → inUse w store r ≡ true → 1 ≤ length (missingAt w store r)
 
 module _ {w : Window} {a u : ℕ} {s : Store} (G : Good w a u s) (c : ℕ) where
   -- one record more
-  free-one : (m : ℕ) → m < w .k → (y : State) → Freed w a u s c m y → Freed w a u s c (suc m) (releaseSpent m y)
-  free-one m hm y f = rw (f .is) (go (inUse t m) (eqb (length (missingAt w t m)) 0) refl refl)
+  free-one : (m : ℕ) → m < rows w → (y : State) → Freed w a u s c m y → Freed w a u s c (suc m) (releaseSpent m y)
+  free-one m hm y f = rw (f .is) (go (inUse w t m) (eqb (length (missingAt w t m)) 0) refl refl)
     where
       t : Store
       t = f .store
@@ -110,7 +111,7 @@ module _ {w : Window} {a u : ℕ} {s : Store} (G : Good w a u s) (c : ℕ) where
       x = at w a (f .used) t c
 
       -- it was not to be released
-      stays : (inUse t m ≡ true → 1 ≤ length (missingAt w t m)) → Freed w a u s c (suc m) x
+      stays : (inUse w t m ≡ true → 1 ≤ length (missingAt w t m)) → Freed w a u s c (suc m) x
       stays h = record {
         used = f .used;
         store = t;
@@ -121,11 +122,11 @@ module _ {w : Window} {a u : ℕ} {s : Store} (G : Good w a u s) (c : ℕ) where
         least = λ r l e. last r l e (ℕ-discrete r m);
       }
         where
-          last : (r : ℕ) → r < suc m → inUse t r ≡ true → Dec (r ≡ m) → 1 ≤ length (missingAt w t r)
-          last r l e (yes z) = rw z (h (ap (inUse t) (sym z) ∙ e))
+          last : (r : ℕ) → r < suc m → inUse w t r ≡ true → Dec (r ≡ m) → 1 ≤ length (missingAt w t r)
+          last r l e (yes z) = rw z (h (ap (inUse w t) (sym z) ∙ e))
           last r l e (no z) = f .least r (omega arith) e
 
-      go : (b d : Bool) → inUse t m ≡ b → eqb (length (missingAt w t m)) 0 ≡ d → Freed w a u s c (suc m) (cond (b && d) (release m x) x)
+      go : (b d : Bool) → inUse w t m ≡ b → eqb (length (missingAt w t m)) 0 ≡ d → Freed w a u s c (suc m) (cond (b && d) (release m x) x)
       go false d p q = stays (λ e. absurd (true≢false (sym e ∙ p)))
       go true false p q = stays (λ e. let z = eqb-false (length (missingAt w t m)) 0 q in omega arith)
       go true true p q = record {
@@ -133,29 +134,29 @@ module _ {w : Window} {a u : ℕ} {s : Store} (G : Good w a u s) (c : ℕ) where
         store = freed w t m;
         is = refl;
         good = freed-good (f .good) m hm p;
-        steps = steps-then (groupOf w) xored zeros (f .steps) (go-on (step-free (f .good) m hm p (eqb-true (length (missingAt w t m)) 0 q)) stop);
+        steps = steps-then (code w) (f .steps) (go-on (step-free (f .good) m hm p (eqb-true (length (missingAt w t m)) 0 q)) stop);
         spent = inr (⊎-elim (λ z. let l = freed-fewer (f .good) m hm p in omega (arith, z .1)) (λ z. let l = freed-fewer (f .good) m hm p in omega arith) (f .spent));
         least = λ r l e. let n = freed-other (f .good) m hm p r e in old r l e n;
       }
         where
-          old : (r : ℕ) → r < suc m → inUse (freed w t m) r ≡ true → r ≢ m → 1 ≤ length (missingAt w (freed w t m) r)
+          old : (r : ℕ) → r < suc m → inUse w (freed w t m) r ≡ true → r ≢ m → 1 ≤ length (missingAt w (freed w t m) r)
           old r l e n = let z = freed-same (f .good) m hm p r n in rw z (f .least r (omega arith) (rw z at e))
 
   -- the first m records
-  pub free-below : (m : ℕ) → m ≤ w .k → Freed w a u s c m (releaseBelow m (at w a u s c))
+  pub free-below : (m : ℕ) → m ≤ rows w → Freed w a u s c m (releaseBelow m (at w a u s c))
   free-below zero h = record { used = u; store = s; is = refl; good = G; steps = stop; spent = inl (refl, refl); least = λ r l e. absurd (omega arith) }
   free-below (suc m) h = free-one m h (releaseBelow m (at w a u s c)) (free-below m (omega arith))
 
 -- a record in use with none missing is among those released
-spends : {w : Window} {a u : ℕ} {s : Store} {c m : ℕ} {y : State} (f : Freed w a u s c m y) (r : ℕ) → r < m → inUse s r ≡ true
+spends : {w : Window} {a u : ℕ} {s : Store} {c m : ℕ} {y : State} (f : Freed w a u s c m y) (r : ℕ) → r < m → inUse w s r ≡ true
     → length (missingAt w s r) ≡ 0 → f .used < u
 spends {w} {s = s} f r h used empty =
-    ⊎-elim (λ z. absurd (let b : 1 ≤ length (missingAt w s r) = subst (λ t. 1 ≤ length (missingAt w t r)) (z .0) (f .least r h (ap (λ t. inUse t r) (z .0) ∙ used)) in omega arith)) (λ z. z) (f .spent)
+    ⊎-elim (λ z. absurd (let b : 1 ≤ length (missingAt w s r) = subst (λ t. 1 ≤ length (missingAt w t r)) (z .0) (f .least r h (ap (λ t. inUse w t r) (z .0) ∙ used)) in omega arith)) (λ z. z) (f .spent)
 
 -- ---- rounds
 
--- the state after some rounds: the store in order, something missing of each check, and the packets present risen by what was rebuilt
-pub record After (w : Window) (a : ℕ) (s : Store) (c : ℕ) (y : State) : Type 1 where
+-- a state that rounds work on: the store in order, something missing of each check in hand, and b and what was rebuilt present
+pub record Working (w : Window) (b : ℕ) (y : State) : Type 0 where
   pub present : ℕ
   pub used : ℕ
   pub store : Store
@@ -163,118 +164,104 @@ pub record After (w : Window) (a : ℕ) (s : Store) (c : ℕ) (y : State) : Type
   pub is : y ≡ at w present used store count
   pub good : Good w present used store
   pub least : Missing 1 w store
-  pub steps : Steps (groupOf w) xored zeros (view w s) (view w store)
-  pub rise : present + c ≡ a + count
+  pub rise : present ≡ b + count
 
--- no round: all stays as it is
-unmoved : {w : Window} {a u : ℕ} {s : Store} {c : ℕ} → Good w a u s → Missing 1 w s → After w a s c (at w a u s c)
-unmoved {a = a} {u} {s} {c} G k = record { present = a; used = u; store = s; count = c; is = refl; good = G; least = k; steps = stop; rise = refl }
-
--- one round: a number of steps, and a record fewer in use unless the receiver is at rest
-pub record Round (w : Window) (a u : ℕ) (s : Store) (c : ℕ) (y : State) : Type 1 where
-  pub after : After w a s c y
-  pub work : Still (groupOf w) (view w s) ⊎ (after .used < u)
-
--- n rounds: as many as records are in use, or more, bring the receiver to rest
-pub record Rounds (w : Window) (n a u : ℕ) (s : Store) (c : ℕ) (y : State) : Type 1 where
-  pub after : After w a s c y
-  pub rest : u ≤ n → Still (groupOf w) (view w (after .store))
+-- one round from y to z: a number of steps; it found the receiver at rest and did nothing, or it rebuilt one packet and spent a record
+pub record Round (w : Window) (b : ℕ) (y z : State) : Type 1 where
+  pub after : Working w b z
+  pub steps : Steps (code w) (view w (y .store)) (view w (z .store))
+  pub work : ((z ≡ y) × Still (code w) (view w (y .store))) ⊎ ((z .window .«in_use» < y .window .«in_use») × (z .rebuilt ≡ suc (y .rebuilt)))
 
 -- no record is ready, so of no check in hand exactly one member is missing
-at-rest : {w : Window} {a u : ℕ} {s : Store} (c : ℕ) → Good w a u s → next (at w a u s c) ≡ none → Still (groupOf w) (view w s)
+at-rest : {w : Window} {a u : ℕ} {s : Store} (c : ℕ) → Good w a u s → next (at w a u s c) ≡ none → Still (code w) (view w s)
 unfolding next
 at-rest {w} {a} {u} {s} c G e k v h one =
-    true≢false (sym (is-ready (h .at) (h .used) (sym (held-count G h) ∙ one)) ∙ unpicked (at w a u s c) (w .k) e (h .at) (h .below))
+    true≢false (sym (is-ready (h .at) (h .used) (sym (held-count G h) ∙ one)) ∙ unpicked (at w a u s c) (rows w) e (h .at) (h .below))
   where
-    is-ready : (r : ℕ) → inUse s r ≡ true → length (missingAt w s r) ≡ 1 → ready (at w a u s c) r ≡ true
+    is-ready : (r : ℕ) → inUse w s r ≡ true → length (missingAt w s r) ≡ 1 → ready (at w a u s c) r ≡ true
     is-ready r p q = rw (p, eq-eqb (length (missingAt w s r)) 1 q)
 
--- record r, of whose group one is missing, rebuilds that, and what is spent is released
-module _ {w : Window} {a u : ℕ} {s : Store} (G : Good w a u s) (r : ℕ) (hr : r < w .k) (used : inUse s r ≡ true) (one : length (missingAt w s r) ≡ 1) where
-  -- that is a round
-  round-by : (c : ℕ) → Round w a u s c (releaseAll (rebuildBy r (at w a u s c)))
-  unfolding releaseAll rebuild
-  round-by c = record {
-    after = record {
-      present = a + 1;
-      used = f .used;
-      store = f .store;
-      count = c + 1;
-      is = f .is;
-      good = f .good;
-      least = record { least = f .least };
-      steps = go-on (step-rebuild G k v i q (Held w s)
-          (record { at = r; below = hr; used = used; names = refl; value = refl }) (λ l x h. h) (λ l x h. inl h)) (f .steps);
-      rise = omega arith;
-    };
-    work = inr (spends f r hr used empty);
-  }
-    where
-      k : ℕ × ℕ
-      k = checkAt s r
+-- a round by record r, of whose group one packet is missing
+round-by : {w : Window} {a u : ℕ} {s : Store} {b : ℕ} → Good w a u s → (r : ℕ) → r < rows w → inUse w s r ≡ true → length (missingAt w s r) ≡ 1
+    → (c : ℕ) → a ≡ b + c → Round w b (at w a u s c) (releaseAll (rebuildBy r (at w a u s c)))
+unfolding releaseAll rebuild
+round-by {w} {a} {u} {s} {b} G r hr used one c rise = subst (Round w b (at w a u s c)) (sym (f .is)) (record {
+  after = record {
+    present = a + 1;
+    used = f .used;
+    store = f .store;
+    count = c + 1;
+    is = refl;
+    good = f .good;
+    least = record { least = f .least };
+    rise = omega arith;
+  };
+  steps = go-on (step-rebuild G k v i q (Held w s)
+      (record { at = r; below = hr; used = used; names = refl; carries = refl }) (λ l x h. h) (λ l x h. inl h)) (f .steps);
+  work = inr (spends f r hr used empty, omega arith);
+})
+  where
+    k : ℕ × ℕ
+    k = checkAt s r
 
-      g : List ℕ
-      g = groupAt w s r
+    g : List ℕ
+    g = groupAt w s r
 
-      v : Content
-      v = recoveryAt w s r
+    v : Content
+    v = recoveryAt w s r
 
-      size : length (v .payload) ≡ w .p
-      size = length-part (s .parity) r (w .k) (w .p) hr (G .fits .parity-long)
+    size : length (v .payload) ≡ w .p
+    size = length-part (s .parity) r (rows w) (w .p) hr (G .fits .parity-long)
 
-      i : ℕ
-      i = headOr 0 (missingAt w s r)
+    i : ℕ
+    i = headOr 0 (missingAt w s r)
 
-      q : Solved w s g v i
-      q = solved G g (member-lt (G .shaped r hr used)) v size i (single (missingAt w s r) one)
+    q : Solved w s g v i
+    q = solved G g (member-lt (G .shaped r hr used)) v size i (single (missingAt w s r) one)
 
-      t : Store
-      t = rebuiltIn w s g v i
+    t : Store
+    t = rebuiltIn w s g v i
 
-      f : Freed w (a + 1) u t (c + 1) (w .k) (releaseBelow (w .k) (at w (a + 1) u t (c + 1)))
-      f = free-below (put-good G i (contentOver w s g v) (q .below) (q .size) (q .empty)) (c + 1) (w .k) (omega arith)
+    f : Freed w (a + 1) u t (c + 1) (rows w) (releaseBelow (rows w) (at w (a + 1) u t (c + 1)))
+    f = free-below (put-good G i (contentOver w s g v) (q .below) (q .size) (q .empty)) (c + 1) (rows w) (omega arith)
 
-      empty : length (missingAt w t r) ≡ 0
-      empty = sym (miss-count w t g (member-lt (G .shaped r hr used))) ∙ count-none (miss (view w t)) g (rebuild-full G k v i q)
+    empty : length (missingAt w t r) ≡ 0
+    empty = sym (miss-count w t g (member-lt (G .shaped r hr used))) ∙ count-none (miss (view w t)) g (rebuild-full G k v i q)
 
--- a round from a store in order
-pub one-round : {w : Window} {a u : ℕ} {s : Store} (c : ℕ) → Good w a u s → Missing 1 w s → Round w a u s c (round (at w a u s c))
+-- a round from a state in its normal form
+round-at : {w : Window} {a u : ℕ} {s : Store} {b : ℕ} (c : ℕ) → Good w a u s → Missing 1 w s → a ≡ b + c → Round w b (at w a u s c) (round (at w a u s c))
 unfolding round next
-one-round {w} {a} {u} {s} c G k = go (next (at w a u s c)) refl
+round-at {w} {a} {u} {s} {b} c G k rise = go (next (at w a u s c)) refl
   where
     x : State
     x = at w a u s c
 
-    go : (o : Option ℕ) → next x ≡ o → Round w a u s c (roundBy o x)
-    go none e = record { after = unmoved G k; work = inl (at-rest c G e) }
+    go : (o : Option ℕ) → next x ≡ o → Round w b x (roundBy o x)
+    go none e = record {
+      after = record { present = a; used = u; store = s; count = c; is = refl; good = G; least = k; rise = rise };
+      steps = stop;
+      work = inl (refl, at-rest c G e);
+    }
     go (some r) e =
-        let p = picked x (w .k) r e in
-        let b = both (inUse s r) (eqb (length (missingAt w s r)) 1) (p .is-ready) in
-        round-by G r (p .below) (b .0) (eqb-true (length (missingAt w s r)) 1 (b .1)) c
+        let p = picked x (rows w) r e in
+        let b = both (inUse w s r) (eqb (length (missingAt w s r)) 1) (p .is-ready) in
+        round-by G r (p .below) (b .0) (eqb-true (length (missingAt w s r)) 1 (b .1)) c rise
 
--- a round and n more
-and-more : {w : Window} {n a u : ℕ} {s : Store} {c : ℕ} {y z : State} (r : Round w a u s c y)
-    → Rounds w n (r .after .present) (r .after .used) (r .after .store) (r .after .count) z → Rounds w (suc n) a u s c z
-and-more {w} r q = record {
-  after = record {
-    present = q .after .present;
-    used = q .after .used;
-    store = q .after .store;
-    count = q .after .count;
-    is = q .after .is;
-    good = q .after .good;
-    least = q .after .least;
-    steps = steps-then (groupOf w) xored zeros (r .after .steps) (q .after .steps);
-    rise = omega (arith, r .after .rise, q .after .rise);
-  };
-  rest = λ h. ⊎-elim (λ z. still-steps (groupOf w) xored zeros (still-steps (groupOf w) xored zeros z (r .after .steps)) (q .after .steps)) (λ l. q .rest (omega arith)) (r .work);
+-- a round
+pub one-round : {w : Window} {b : ℕ} {y : State} → Working w b y → Round w b y (round y)
+one-round {w} {b} h = subst (λ y. Round w b y (round y)) (sym (h .is)) (round-at (h .count) (h .good) (h .least) (h .rise))
+
+-- ---- the engine
+
+-- rounds as an engine of the theory: a round needs and keeps a working state, spends records in use and rebuilds packets
+abbrev pub engine : (w : Window) (b : ℕ) → Engine (code w) State
+engine w b = record {
+  see = λ y. view w (y .store);
+  fit = Working w b;
+  one = round;
+  left = λ y. y .window .«in_use»;
+  did = λ y. y .rebuilt;
+  keeps = λ y h. one-round h .after;
+  steps = λ y h. one-round h .steps;
+  work = λ y h. one-round h .work;
 }
-
--- n rounds from a store in order
-pub all-rounds : {w : Window} (n : ℕ) {a u : ℕ} {s : Store} (c : ℕ) → Good w a u s → Missing 1 w s → Rounds w n a u s c (rounds round n (at w a u s c))
-unfolding rounds unmoved
-all-rounds zero c G k = record { after = unmoved G k; rest = λ h. ⊎-elim (λ z. z) (λ l. absurd (omega arith)) (one-round c G k .work) }
-all-rounds {w} (suc n) c G k =
-    let r = one-round c G k in
-    let f = r .after in
-    and-more r (subst (Rounds w n (f .present) (f .used) (f .store) (f .count)) (ap (rounds round n) (sym (f .is))) (all-rounds n (f .count) (f .good) (f .least)))

@@ -1,211 +1,314 @@
--- Demand 3 (Demand3.antt), proved: a run keeps the invariant of Fine.antt, and the theory's theorems give the conclusions.
+-- Demand 3 from any start (Start.antt) and from an opening (Demand3.antt), proved: a list is a run of the theory that keeps the invariant
+-- of Fine.antt, and the theory's theorems give the conclusions.
 use mathlib.Core.Path.{_≡_, refl, sym, ap, _∙_, subst}
 use mathlib.Core.Logic.{_⊎_, inl, inr, ⊎-elim}
-use mathlib.Core.Bool.{Bool, true, false, cond, _&&_, _||_, true≢false, false≢true}
-use mathlib.Core.List.{List, [], _∷_, _++_, map, append-nil, append-assoc, List·Memᴰ, List·Memᴰ·head, List·Memᴰ·tail, List·Memᴰ·not-nil, Memᴰ·cast, Memᴰ·map, Memᴰ·of-map, Memᴰ·append-left, Memᴰ·append-right}
+use mathlib.Core.Bool.{Bool, true, false, _&&_, true≢false}
+use mathlib.Core.List.{List, [], _∷_, _++_, map, List·Memᴰ, List·Memᴰ·head, List·Memᴰ·tail, Memᴰ·cast, Memᴰ·map, Memᴰ·append-left, Memᴰ·append-right}
 use Prim.Native.Nat.{ℕ, _<_, _≤_}
 use native.Mathlib.Omega.{arith}
 use lib.ListN.{length}
-use lib.Dec.{eqb, ltb}
+use lib.Dec.{ltb}
 use borrow.Author.Tests.{eqb-true, lt-ltb, ltb-true}
-use Rattle.answer.specs.declared.Answer.the-variants.{Done, Refused}
-use Rattle.answer.specs.First.{first, first-none}
+use Rattle.answer.specs.declared.Answer.the-variants.{Done}
+use Rattle.answer.specs.First.{first-append, first-end}
+use Rattle.sequence.specs.Lists.{upTo, and-split as both}
 use Rattle.sequence.specs.Wrap.{numberAt}
 use Rattle.rtp.specs.Fec.{column, row, snbase}
 use Rattle.window.specs.declared.Window.{Window}
-use Rattle.window.specs.Limits.{width, setUpTests}
-use Rattle.window.specs.Store.{Store, shortStore, payloadAt}
+use Rattle.window.specs.Limits.{width, rows, room}
+use Rattle.window.specs.Store.{Store, payloadAt, recordAt}
 use Rattle.window.specs.Group.{position, group, inside, isMissing}
-use Rattle.sequence.specs.Lists.{and-split as both}
-use Rattle.calls.specs.Call.{Outcome, contentAt, noWindow, asked, cleared, openTests, opened}
-use Rattle.xor.specs.Laws.{packet}
+use Rattle.window.specs.Order.{inUse}
+use Rattle.calls.specs.Content.{xorContents, contentAt, recoveryAt}
+use Rattle.calls.specs.State.{recount}
+use Rattle.calls.specs.Call.{Outcome, standingTests, asked, opened}
+use Rattle.calls.specs.Standing.{standing-good}
 use Rattle.peel.specs.Peel as Theory
 use Rattle.peel.specs.Rest.{Still}
-use Rattle.peel.specs.Theorem.{right, stopping, missing-iff}
-use Rattle.guarantee.specs.Ranges.{decide, keep-ext, count-keep, all-of}
-use Rattle.guarantee.specs.Packets.{Packet, xored, zeros, packet-timestamp, packet-payload, length-part}
-use Rattle.guarantee.specs.View.{groupOf, packetAt, view, slot-present, miss-mark, mark-one}
+use Rattle.peel.specs.Theorem.{right, stopping, missing-iff, same, run-inv}
+use Rattle.guarantee.specs.Ranges.{decide, keep-ext, count-keep, upTo-mem, keep-mem}
+use Rattle.guarantee.specs.Packets.{packet-content, length-part}
+use Rattle.guarantee.specs.View.{Limits, groupOf, group-lt, code, checkAt, packetAt, view, slot-present, miss-mark, Good, mark-one}
+use Rattle.guarantee.specs.Recount.{fills-on, holds-on, unaltered-on}
+use Rattle.guarantee.specs.Order.{Ordered, limits, set-up-passes, standing, stands}
 use Rattle.guarantee.specs.Accepted.{rests}
-use Rattle.guarantee.specs.Offers.{none-split, done-first}
-use Rattle.guarantee.specs.Fine.{Opened, Fine, fine-start, fine-media, fine-parity}
-use Rattle.guarantee.specs.Demand3.{Port, mediaPort, columnPort, rowPort, Offer, callOf, offered, run, Stretch, UnalteredOn, Unaltered, Name, mediaName, parityName, nameOn, nameOf, Received, groupNamed, groupsOf, listed, different, distinctGroups, markAt, Hidden, Demand3, Claim, SamePackets, ClaimSame}
-use Rattle.guarantee.specs.Sent.{contentSent, sent, seenOn, seen, media-read, parity-read, position-number, unaltered-seen, media-name, name-media, check-name, name-check}
+use Rattle.guarantee.specs.Fine.{Opened, Fine, Goes, fine-media, fine-parity}
+use Rattle.guarantee.specs.Demand3.{Port, mediaPort, columnPort, rowPort, Offer, callOf, offered, run, Stretch, Fills, UnalteredOn, Unaltered, Name, mediaName, parityName, nameOn, nameOf, namesOf, Received, distinctGroups, Given, markAt, Hidden, Demand3, Claim, SamePackets, ClaimSame}
+use Rattle.guarantee.specs.Start.{Holds, Start, mediaHeld, parityHeld, receivedFrom, GivenFrom, ClaimFrom, ClaimSameFrom, ClaimChain}
+use Rattle.guarantee.specs.Sent.{sent, seenOn, seen, media-read, parity-read, position-number, recovery-size, recovery-sum}
+use Rattle.guarantee.specs.Names.{distinct-has, Got, got-unaltered, media-in, check-in, in-media, in-check}
+use Rattle.guarantee.specs.Opening.{opening, opened-start, none-held}
 
--- ---- the different groups of a list
+module _ {w : Window} (O : Opened w) {t : Stretch} (F : Fills w t) where
+  -- the window is within its limits
+  L : Limits w
+  L = limits w (O .based) (O .faultless)
 
--- a group that is listed is in the list
-listed-mem : (k : ℕ × ℕ) (l : List (ℕ × ℕ)) → listed k l ≡ true → List·Memᴰ k l
-listed-mem k [] e = absurd (false≢true e)
-listed-mem k (x ∷ l) e = go (eqb (k .0) (x .0) && eqb (k .1) (x .1)) refl (listed-mem k l) e
-  where
-    go : (b : Bool) → (eqb (k .0) (x .0) && eqb (k .1) (x .1)) ≡ b → (listed k l ≡ true → List·Memᴰ k l) → (b || listed k l) ≡ true → List·Memᴰ k (x ∷ l)
-    go true q ih h = let z = both (eqb (k .0) (x .0)) (eqb (k .1) (x .1)) q in List·Memᴰ·head (λ i. (eqb-true (k .0) (x .0) (z .0) i, eqb-true (k .1) (x .1) (z .1) i))
-    go false q ih h = List·Memᴰ·tail (ih h)
-
--- every group is among the different ones
-different-has : (l : List (ℕ × ℕ)) (k : ℕ × ℕ) → List·Memᴰ k l → List·Memᴰ k (different l)
-unfolding different
-different-has [] k m = m
-different-has (x ∷ l) k m = go (listed x l) refl (different-has l) m
-  where
-    go : (b : Bool) → listed x l ≡ b → ((j : ℕ × ℕ) → List·Memᴰ j l → List·Memᴰ j (different l)) → List·Memᴰ k (x ∷ l) → List·Memᴰ k (cond b (different l) (x ∷ different l))
-    go true q ih (List·Memᴰ·head e) = Memᴰ·cast e (ih x (listed-mem x l q))
-    go true q ih (List·Memᴰ·tail n) = ih k n
-    go false q ih (List·Memᴰ·head e) = List·Memᴰ·head e
-    go false q ih (List·Memᴰ·tail n) = List·Memᴰ·tail (ih k n)
-
--- the group of every parity offer is among the groups
-groups-has : (offers : List Offer) (o : Offer) (stream snbase : ℕ) → List·Memᴰ o offers → nameOf o ≡ parityName stream snbase → List·Memᴰ (stream, snbase) (groupsOf offers)
-groups-has [] o a b m e = absurd (List·Memᴰ·not-nil m)
-groups-has (p ∷ offers) o a b (List·Memᴰ·head q) e =
-    Memᴰ·append-left (groupsOf offers) (subst (λ x. List·Memᴰ (a, b) (groupNamed x)) (sym (ap nameOf (sym q) ∙ e)) (List·Memᴰ·head refl))
-groups-has (p ∷ offers) o a b (List·Memᴰ·tail m) e = Memᴰ·append-right (groupNamed (nameOf p)) (groups-has offers o a b m e)
-
-module _ {w : Window} (O : Opened w) (t : Stretch w) where
   -- ---- the run
 
-  module _ {D : List (ℕ × ℕ)} (room : length D ≤ w .k) where
+  module _ {D : List (ℕ × ℕ)} (enough : length D ≤ room w) where
     -- an unaltered offer keeps the invariant
     fine-offer : (p : Port) (g : List ℕ) → UnalteredOn w t p g → ((stream snbase : ℕ) → nameOn p g ≡ parityName stream snbase → List·Memᴰ (stream, snbase) D)
-        → {os : List (Theory.Offer (ℕ × ℕ) Packet)} {v : Window} {s : Store} → Fine w D os v s
-        → Fine w D (os ++ (seenOn w p g ∷ [])) (callOf p v g s .window) (callOf p v g s .store)
+        → {v : Window} {s : Store} → Fine w D v s → Goes w D (seenOn w p g ∷ []) s (callOf p v g s)
     fine-offer mediaPort g u key f =
-        let r = media-read O t g u in
-        fine-media O room g (r .faultless) (rw (ap (position w) (r .number) ∙ position-number O t (r .place) (r .below)) (r .below)) f
-    fine-offer columnPort g u key f = let r = parity-read O t column (omega arith) g u in fine-parity O room column (omega arith) g (r .faultless) (r .within) (key column (snbase g) refl) f
-    fine-offer rowPort g u key f = let r = parity-read O t row (omega arith) g u in fine-parity O room row (omega arith) g (r .faultless) (r .within) (key row (snbase g) refl) f
+        let r = media-read L F g u in
+        fine-media O enough g (r .faultless) (rw (ap (position w) (r .number) ∙ position-number L (r .place) (r .below)) (r .below)) f
+    fine-offer columnPort g u key f = let r = parity-read L F column (omega arith) g u in fine-parity O enough column (omega arith) g (r .faultless) (r .within) (key column (snbase g) refl) f
+    fine-offer rowPort g u key f = let r = parity-read L F row (omega arith) g u in fine-parity O enough row (omega arith) g (r .faultless) (r .within) (key row (snbase g) refl) f
 
     -- and so does a list of them
     fine-run : (offers : List Offer) → ((o : Offer) → List·Memᴰ o offers → Unaltered w t o)
         → ((o : Offer) → List·Memᴰ o offers → (stream snbase : ℕ) → nameOf o ≡ parityName stream snbase → List·Memᴰ (stream, snbase) D)
-        → (os : List (Theory.Offer (ℕ × ℕ) Packet)) (x : Outcome) → Fine w D os (x .window) (x .store)
-        → Fine w D (os ++ map (seen w) offers) (run x offers .window) (run x offers .store)
+        → (x : Outcome) → Fine w D (x .window) (x .store) → Goes w D (map (seen w) offers) (x .store) (run x offers)
     unfolding run
-    fine-run [] ok key os x f = rw append-nil f
-    fine-run (o ∷ offers) ok key os x f =
-        rw append-assoc at (fine-run offers (λ p m. ok p (List·Memᴰ·tail m)) (λ p m. key p (List·Memᴰ·tail m)) (os ++ (seen w o ∷ [])) (offered o (x .window) (x .store))
-        (fine-offer (o .port) (o .datagram) (ok o (List·Memᴰ·head refl)) (key o (List·Memᴰ·head refl)) f))
+    fine-run [] ok key x f = record { fine = f; runs = Theory.done }
+    fine-run (o ∷ offers) ok key x f =
+        let a = fine-offer (o .port) (o .datagram) (ok o (List·Memᴰ·head refl)) (key o (List·Memᴰ·head refl)) f in
+        let b = fine-run offers (λ p m. ok p (List·Memᴰ·tail m)) (λ p m. key p (List·Memᴰ·tail m)) (offered o (x .window) (x .store)) (a .fine) in
+        record { fine = b .fine; runs = Theory.runs-then (code w) (a .runs) (b .runs) }
 
-  -- ---- the conclusions, of any window and store that a run left
+  -- ---- what holds after it
 
-  module _ (offers : List Offer) (ok : (o : Offer) → List·Memᴰ o offers → Unaltered w t o) {D : List (ℕ × ℕ)} {v : Window} {s : Store} (f : Fine w D (map (seen w) offers) v s) where
-    -- the receiver is at rest
-    still : Still (groupOf w) (view w s)
-    still = rests (f .order .good) (f .order .waits)
+  module _ {s : Store} {a u : ℕ} (start : Ordered w a u s) (H : Holds w t s) {offers : List Offer} (ok : (o : Offer) → List·Memᴰ o offers → Unaltered w t o)
+      {D : List (ℕ × ℕ)} {y : Outcome} (arrived : Goes w D (map (seen w) offers) s y) where
+    -- nothing of it was lost
+    inv : Theory.Inv (code w) (Got w s offers) (view w (y .store))
+    inv = run-inv (code w) (sent t) (got-unaltered L F (start .good) ok H) (arrived .runs)
 
-    -- an offer of the list by its name
-    by-name : (x : Name) → Received offers x → (o : Offer) × List·Memᴰ o offers × (nameOf o ≡ x)
-    by-name x m = Memᴰ·of-map nameOf offers m
+    -- and the store is at rest
+    still : Still (code w) (view w (y .store))
+    still = rests (arrived .fine .order .good) (arrived .fine .order .waits)
 
     -- what is missing is hidden
-    missing-hidden : Hidden w offers (λ i. ltb i (w .n) && Theory.miss (view w s) i)
+    missing-hidden : Hidden w (receivedFrom w s offers) (λ i. ltb i (w .n) && Theory.miss (view w (y .store)) i)
     missing-hidden = record {
-      of-stretch = λ i e. ltb-true i (w .n) (both (ltb i (w .n)) (Theory.miss (view w s) i) e .0);
-      unreceived = λ i e m. let b = both (ltb i (w .n)) (Theory.miss (view w s) i) e in
-          let o = by-name (mediaName (numberAt width (w .base) i)) m in
-          let x = name-media O t (o .0 .port) (o .0 .datagram) i (ltb-true i (w .n) (b .0)) (o .2) in
-          true≢false (sym (b .1) ∙ f .inv .all (Theory.media i (x .0)) (Memᴰ·cast (sym (x .1)) (Memᴰ·map (seen w) (o .1))));
-      never-one = λ stream snbase m e. let o = by-name (parityName stream snbase) m in
-          let c = name-check O t (o .0 .port) (o .0 .datagram) (ok (o .0) (o .1)) stream snbase (o .2) in
-          set .never-one (stream, snbase) (c .value) (Memᴰ·cast (sym (c .is)) (Memᴰ·map (seen w) (o .1)))
-          (count-keep (Theory.miss (view w s)) (group w stream snbase)
-          ∙ ap length (keep-ext (Theory.miss (view w s)) kept (group w stream snbase) (inner stream snbase (c .within))) ∙ e);
+      of-stretch = λ i e. ltb-true i (w .n) (both (ltb i (w .n)) (Theory.miss (view w (y .store)) i) e .0);
+      unreceived = λ i e m. let b = both (ltb i (w .n)) (Theory.miss (view w (y .store)) i) e in
+          let x = in-media L F (start .good) ok i (ltb-true i (w .n) (b .0)) m in
+          true≢false (sym (b .1) ∙ inv .all (Theory.media i (x .0)) (x .1));
+      never-one = λ stream snbase m e. let c = in-check L F (start .good) ok stream snbase m in
+          let h = check-in L F (start .good) ok (stream, snbase) (c .0) (c .1) in
+          stopping (code w) inv still .never-one (stream, snbase) (c .0) (c .1)
+          (count-keep (Theory.miss (view w (y .store))) (group w stream snbase)
+          ∙ ap length (keep-ext (Theory.miss (view w (y .store))) kept (group w stream snbase) (inner stream snbase (h .0))) ∙ e);
     }
       where
         kept : ℕ → Bool
-        kept i = ltb i (w .n) && Theory.miss (view w s) i
+        kept i = ltb i (w .n) && Theory.miss (view w (y .store)) i
 
-        set : Theory.Stopping (groupOf w) (map (seen w) offers) (Theory.miss (view w s))
-        set = stopping (groupOf w) xored zeros (f .inv) still
-
-        inner : (stream snbase : ℕ) → inside w stream snbase ≡ true → (i : ℕ) → List·Memᴰ i (group w stream snbase) → Theory.miss (view w s) i ≡ kept i
-        inner stream snbase h i k = rw (all-of (λ j. ltb j (w .n)) (group w stream snbase) h i k)
+        inner : (stream snbase : ℕ) → inside w stream snbase ≡ true → (i : ℕ) → List·Memᴰ i (group w stream snbase) → Theory.miss (view w (y .store)) i ≡ kept i
+        inner stream snbase h i m = rw (lt-ltb i (w .n) (group-lt w stream snbase h i m))
 
     -- what is hidden is a stopping set of the theory
-    hidden-stopping : (S : ℕ → Bool) → Hidden w offers S → Theory.Stopping (groupOf w) (map (seen w) offers) S
+    hidden-stopping : (S : ℕ → Bool) → Hidden w (receivedFrom w s offers) S → Theory.Stopping (code w) (Got w s offers) S
     hidden-stopping S h = record {
-      unreceived = λ i x m. let o = Memᴰ·of-map (seen w) offers m in outside i (λ e. h .unreceived i e
-          (Memᴰ·cast (sym (media-name O t (o .0 .port) (o .0 .datagram) (ok (o .0) (o .1)) i x (o .2))) (Memᴰ·map nameOf (o .1))));
-      never-one = λ k x m e. let o = Memᴰ·of-map (seen w) offers m in
-          h .never-one (k .0) (k .1) (Memᴰ·cast (sym (check-name O t (o .0 .port) (o .0 .datagram) k x (o .2))) (Memᴰ·map nameOf (o .1))) (sym (count-keep S (groupOf w k)) ∙ e);
+      unreceived = λ i x m. outside i (λ e. h .unreceived i e (media-in L F (start .good) ok i x m .1));
+      never-one = λ k x m e. h .never-one (k .0) (k .1) (check-in L F (start .good) ok k x m .1) (sym (count-keep S (groupOf w k)) ∙ e);
     }
       where
         outside : (i : ℕ) → (S i ≡ true → ⊥) → S i ≡ false
         outside i n = ⊎-elim (λ e. absurd (n e)) (λ e. e) (decide (S i))
 
-    -- the three conclusions
-    conclusions : Demand3 w t offers s
+    -- a payload that is kept has P bytes
+    size-at : (i : ℕ) → i < w .n → length (payloadAt w (y .store) i) ≡ w .p
+    size-at i h = length-part (y .store .media) i (w .n) (w .p) h (arrived .fine .order .good .fits .media-long)
+
+    -- what is present is what was sent
+    present-sent : (i : ℕ) → i < w .n → markAt (y .store) i ≡ 1 → contentAt w (y .store) i ≡ t i
+    present-sent i h e =
+        let n : isMissing (y .store .marks) i ≡ false = rw e in
+        packet-content (contentAt w (y .store) i) (t i) (size-at i h ∙ sym (F .size i h))
+        (right (code w) (sent t) (inv .sound) (got-unaltered L F (start .good) ok H) i (packetAt w (y .store) i) (slot-present w (y .store) i h n))
+
+    -- demand 3
+    conclusions : Demand3 w t (receivedFrom w s offers) (y .store)
     conclusions = record {
-      mark = λ i h. ⊎-elim (λ e. inl (eqb-true (markAt s i) 0 e)) (λ e. inr (mark-one (f .order .good) i h e)) (decide (isMissing (s .marks) i));
-      present = λ i h e. let n : isMissing (s .marks) i ≡ false = rw e in
-          let z : packetAt w s i ≡ sent t i = right (groupOf w) xored zeros packet (sent t) (f .inv) all-unaltered i (packetAt w s i) (slot-present w s i h n) in
-          (packet-timestamp (contentAt w s i) (contentSent t i) z, packet-payload (contentAt w s i) (contentSent t i) (size-at i h ∙ sym (t .size i h)) z);
+      mark = λ i h. ⊎-elim (λ e. inl (eqb-true (markAt (y .store) i) 0 e)) (λ e. inr (mark-one (arrived .fine .order .good) i h e)) (decide (isMissing (y .store .marks) i));
+      present = present-sent;
       missing = λ i h. (
-        λ e. (λ j. ltb j (w .n) && Theory.miss (view w s) j, missing-hidden, rw (lt-ltb i (w .n) h, miss-mark w s i h, e)),
-        λ q. eqb-true (markAt s i) 0 (sym (miss-mark w s i h) ∙ missing-iff (groupOf w) xored zeros (f .inv) still i .1 (q .0, hidden-stopping (q .0) (q .1), q .2)),
+        λ e. (λ j. ltb j (w .n) && Theory.miss (view w (y .store)) j, missing-hidden, rw (lt-ltb i (w .n) h, miss-mark w (y .store) i h, e)),
+        λ q. eqb-true (markAt (y .store) i) 0 (sym (miss-mark w (y .store) i h) ∙ missing-iff (code w) inv still i .1 (q .0, hidden-stopping (q .0) (q .1), q .2)),
       );
     }
-      where
-        all-unaltered : (p : Theory.Offer (ℕ × ℕ) Packet) → List·Memᴰ p (map (seen w) offers) → Theory.Unaltered (groupOf w) xored zeros (sent t) p
-        all-unaltered p m = let o = Memᴰ·of-map (seen w) offers m in rw (sym (o .2)) (unaltered-seen O t (o .0 .port) (o .0 .datagram) (ok (o .0) (o .1)))
 
-        size-at : (i : ℕ) → i < w .n → length (payloadAt w s i) ≡ w .p
-        size-at i h = length-part (s .media) i (w .n) (w .p) h (f .order .good .fits .media-long)
+    -- and all that the store holds is unaltered again
+    holds-again : Holds w t (y .store)
+    holds-again = record {
+      media = present-sent;
+      parity = λ r h e. let k = checkAt (y .store) r in
+          let c = recoveryAt w (y .store) r in
+          let i = arrived .fine .order .good .shaped r h e .within in
+          let m : Got w s offers (Theory.check k c) = inv .sound .kept k c (record { at = r; below = h; used = e; names = refl; carries = refl }) in
+          packet-content c (xorContents (w .p) t (groupOf w k))
+          (length-part (y .store .parity) r (rows w) (w .p) h (arrived .fine .order .good .fits .parity-long) ∙ sym (recovery-size F k i))
+          (got-unaltered L F (start .good) ok H (Theory.check k c) m .0 ∙ sym (recovery-sum F k i));
+    }
 
--- ---- the opening
+    -- so it is a start, with the counts that it has then
+    start-again : Start (recount w (arrived .fine .present) (arrived .fine .used)) t (y .store)
+    start-again = record {
+      base-fits = O .based;
+      fills = record { timestamp-fits = F .timestamp-fits; size = F .size; bytes = F .bytes };
+      passes = first-append (standingTests (recount w (arrived .fine .present) (arrived .fine .used)) (y .store) 0 0) []
+          (stands w (arrived .fine .present) (arrived .fine .used) (y .store) (O .faultless) (arrived .fine .order)) ∙ sym first-end;
+      holds = record { media = holds-again .media; parity = holds-again .parity };
+    }
 
--- an opening that answered 0 met no refusal, and set the store to zero
-opening : (w : Window) (s : Store) → opened w s .answer ≡ Done 0 → (first (openTests w s) ≡ 0) × (opened w s ≡ record { answer = Done 0; window = w; store = cleared w s })
-unfolding opened
-opening w s e =
-    let z : first (openTests w s) ≡ 0 = done-first (openTests w s) (record { answer = Done 0; window = w; store = cleared w s })
-    (record { answer = Refused (first (openTests w s)); window = noWindow; store = s }) (first (openTests w s)) 0 refl e in
-    (z, rw z)
+-- ---- from any start
+
+-- what is given, by the set-up numbers of a window value w and counts a and u
+record Ready (w : Window) (a u : ℕ) (s : Store) (t : Stretch) (offers : List Offer) : Type 0 where
+  pub within : Opened w
+  pub fills : Fills w t
+  pub ordered : Ordered w a u s
+  pub holds : Holds w t s
+  pub unaltered : (o : Offer) → List·Memᴰ o offers → Unaltered w t o
+  pub few-groups : length (distinctGroups (receivedFrom w s offers)) ≤ room w
+
+-- that is what is given
+ready-at : (w : Window) (a u : ℕ) (x : Outcome) {t : Stretch} {offers : List Offer} → x .window ≡ recount w a u → GivenFrom x t offers → Ready w a u (x .store) t offers
+ready-at w a u x {t} {offers} e G =
+    let H : GivenFrom (record { answer = x .answer; window = recount w a u; store = x .store }) t offers =
+    subst (λ v. GivenFrom (record { answer = x .answer; window = v; store = x .store }) t offers) e G in
+    let v : Window = recount w a u in
+    record {
+      within = record { based = H .start .base-fits; faultless = set-up-passes v (x .store) (H .start .passes) };
+      fills = fills-on v (w .present) (w .«in_use») t (H .start .fills);
+      ordered = standing w a u (x .store) (standing-good v (x .store) 0 0 (H .start .passes));
+      holds = holds-on v (w .present) (w .«in_use») t (H .start .holds);
+      unaltered = λ o m. unaltered-on v (w .present) (w .«in_use») t o (H .unaltered o m);
+      few-groups = H .few-groups;
+    }
+
+-- the list is a run from there
+arrives : {w : Window} {a u : ℕ} {t : Stretch} {offers : List Offer} (x : Outcome) → x .window ≡ recount w a u → Ready w a u (x .store) t offers
+    → Goes w (distinctGroups (receivedFrom w (x .store) offers)) (map (seen w) offers) (x .store) (run x offers)
+arrives {w} {a} {u} {offers = offers} x e R = fine-run (R .within) (R .fills) (R .few-groups) offers (R .unaltered)
+    (λ o m a b e. distinct-has received a b (Memᴰ·append-right (mediaHeld w (x .store) ++ parityHeld w (x .store)) (Memᴰ·cast (sym e) (Memᴰ·map nameOf m)))) x
+    (record {
+      present = a;
+      used = u;
+      window = e;
+      order = R .ordered;
+      keyed = λ r h e. distinct-has received (recordAt (x .store) r .stream) (recordAt (x .store) r .snbase) (Memᴰ·append-left (namesOf offers) (Memᴰ·append-right (mediaHeld w (x .store))
+          (Memᴰ·map (λ r. parityName (recordAt (x .store) r .stream) (recordAt (x .store) r .snbase)) (keep-mem (inUse w (x .store)) (upTo (rows w)) r e (upTo-mem (rows w) r h)))));
+    })
+  where
+    received : List Name
+    received = receivedFrom w (x .store) offers
+
+-- demand 3 from any start
+pub demand3-from : ClaimFrom
+demand3-from x t offers G =
+    let R = ready-at (x .window) (x .window .present) (x .window .«in_use») x refl G in
+    let A = arrives x refl R in
+    record {
+      set-up = rw (A .fine .window);
+      demand = conclusions (R .within) (R .fills) (R .ordered) (R .holds) (R .unaltered) A;
+      start = rw (A .fine .window) (start-again (R .within) (R .fills) (R .ordered) (R .holds) (R .unaltered) A);
+    }
+
+-- lists, one after the other
+run-append : (x : Outcome) (offers more : List Offer) → run x (offers ++ more) ≡ run (run x offers) more
+unfolding run
+run-append x [] more = refl
+run-append x (o ∷ offers) more = run-append (offered o (x .window) (x .store)) offers more
+
+-- lists chain
+pub demand3-chain : ClaimChain
+demand3-chain x t offers more G ok few =
+    let a = demand3-from x t offers G in
+    rw (run-append x offers more) (demand3-from (run x offers) t more (record {
+      start = a .start;
+      unaltered = λ o m. subst (λ v. Unaltered v t o) (sym (a .set-up)) (unaltered-on (x .window) (run x offers .window .present) (run x offers .window .«in_use») t o (ok o m));
+      few-groups = subst (λ v. length (distinctGroups (receivedFrom v (run x offers .store) more)) ≤ room v) (sym (a .set-up)) few;
+    }))
 
 -- ---- two lists of the same packets
 
--- a set hidden from one list is hidden from another of no more packets
-hidden-fewer : {w : Window} {offers others : List Offer} {S : ℕ → Bool} → ((x : Name) → Received others x → Received offers x) → Hidden w offers S → Hidden w others S
-hidden-fewer sub h = record {
-  of-stretch = h .of-stretch;
-  unreceived = λ i e m. h .unreceived i e (sub _ m);
-  never-one = λ stream snbase m. h .never-one stream snbase (sub _ m);
+-- a packet of one list is in the other, whatever it carries there
+covered : {w : Window} (L : Limits w) {t u : Stretch} (F : Fills w t) (E : Fills w u) {a b c d : ℕ} {s r : Store} (G : Good w a b s) (H : Good w c d r) {offers others : List Offer}
+    (ok : (o : Offer) → List·Memᴰ o offers → Unaltered w t o) (ko : (o : Offer) → List·Memᴰ o others → Unaltered w u o)
+    → ((x : Name) → Received (receivedFrom w s offers) x → Received (receivedFrom w r others) x) → Theory.Covered (Got w s offers) (Got w r others)
+covered {w} L F E G H ok ko sub = record {
+  of-media = λ i x m. let z = media-in L F G ok i x m in in-media L E H ko i (z .0) (sub _ (z .1));
+  of-check = λ k c m. in-check L E H ko (k .0) (k .1) (sub _ (check-in L F G ok k c m .1));
 }
 
--- so what is missing after one list is missing after the other
-same-marks : {w : Window} {t u : Stretch w} {offers others : List Offer} {s r : Store} → Demand3 w t offers s → Demand3 w u others r → SamePackets offers others
-    → (i : ℕ) → i < w .n → markAt s i ≡ markAt r i
-same-marks {w} {s = s} {r = r} A B same i h = go (A .mark i h) (B .mark i h)
+-- from any starts of the same set-up numbers
+pub demand3-same-from : ClaimSameFrom
+demand3-same-from x y t u offers others G H e names i h = go (conclusions (R .within) (R .fills) (R .ordered) (R .holds) (R .unaltered) A .mark i h)
+    (conclusions (Q .within) (Q .fills) (Q .ordered) (Q .holds) (Q .unaltered) B .mark i h)
   where
-    there : markAt s i ≡ 0 → markAt r i ≡ 0
-    there e = let q = A .missing i h .0 e in B .missing i h .1 (q .0, hidden-fewer (λ x. same x .1) (q .1), q .2)
+    w : Window
+    w = x .window
 
-    back : markAt r i ≡ 0 → markAt s i ≡ 0
-    back e = let q = B .missing i h .0 e in A .missing i h .1 (q .0, hidden-fewer (λ x. same x .0) (q .1), q .2)
+    R : Ready w (w .present) (w .«in_use») (x .store) t offers
+    R = ready-at w (w .present) (w .«in_use») x refl G
 
-    go : (markAt s i ≡ 0) ⊎ (markAt s i ≡ 1) → (markAt r i ≡ 0) ⊎ (markAt r i ≡ 1) → markAt s i ≡ markAt r i
-    go (inl a) b = a ∙ sym (there a)
-    go (inr a) (inl b) = absurd (let c = back b in omega arith)
+    Q : Ready w (y .window .present) (y .window .«in_use») (y .store) u others
+    Q = ready-at w (y .window .present) (y .window .«in_use») y e H
+
+    A : Goes w (distinctGroups (receivedFrom w (x .store) offers)) (map (seen w) offers) (x .store) (run x offers)
+    A = arrives x refl R
+
+    B : Goes w (distinctGroups (receivedFrom w (y .store) others)) (map (seen w) others) (y .store) (run y others)
+    B = arrives y e Q
+
+    L′ : Limits w
+    L′ = limits w (R .within .based) (R .within .faultless)
+
+    packets : SamePackets (receivedFrom w (x .store) offers) (receivedFrom w (y .store) others)
+    packets = subst (λ v. SamePackets (receivedFrom w (x .store) offers) (receivedFrom v (y .store) others)) e names
+
+    missing : isMissing (run x offers .store .marks) i ≡ isMissing (run y others .store .marks) i
+    missing =
+        sym (miss-mark w (run x offers .store) i h)
+        ∙ same (code w) (inv (R .within) (R .fills) (R .ordered) (R .holds) (R .unaltered) A) (still (R .within) (R .fills) (R .ordered) (R .holds) (R .unaltered) A)
+        (inv (Q .within) (Q .fills) (Q .ordered) (Q .holds) (Q .unaltered) B) (still (Q .within) (Q .fills) (Q .ordered) (Q .holds) (Q .unaltered) B)
+        (covered L′ (R .fills) (Q .fills) (R .ordered .good) (Q .ordered .good) (R .unaltered) (Q .unaltered) (λ z. packets z .0))
+        (covered L′ (Q .fills) (R .fills) (Q .ordered .good) (R .ordered .good) (Q .unaltered) (R .unaltered) (λ z. packets z .1)) i
+        ∙ miss-mark w (run y others .store) i h
+
+    go : (markAt (run x offers .store) i ≡ 0) ⊎ (markAt (run x offers .store) i ≡ 1) → (markAt (run y others .store) i ≡ 0) ⊎ (markAt (run y others .store) i ≡ 1)
+        → markAt (run x offers .store) i ≡ markAt (run y others .store) i
+    go (inl a) b = a ∙ sym (eqb-true (markAt (run y others .store) i) 0 (sym missing ∙ rw a))
+    go (inr a) (inl b) = eqb-true (markAt (run x offers .store) i) 0 (missing ∙ rw b) ∙ sym b
     go (inr a) (inr b) = a ∙ sym b
 
--- ---- the theorems
+-- ---- from an opening
+
+-- what demand 3 gives is such a start
+given-from : {w : Window} {lent : Store} {t : Stretch} {offers : List Offer} → w .present ≡ 0 → w .«in_use» ≡ 0 → Given w lent t offers → GivenFrom (opened w lent) t offers
+given-from {w} {lent} {t} {offers} a u G =
+    let e = opening w lent (G .fresh) in
+    rw (e .1) (record {
+      start = opened-start w lent t (G .base-fits) (G .fills) (e .0) a u;
+      unaltered = G .unaltered;
+      few-groups = rw (none-held w lent offers) (G .few-groups);
+    })
 
 -- demand 3
 pub demand3 : Claim
 demand3 base ssrc l d p n k lent t offers G =
     let w : Window = asked base ssrc l d p n k in
     let e = opening w lent (G .fresh) in
-    let c = none-split (setUpTests w) ((4, shortStore w lent) ∷ []) (first-none (openTests w lent) (tt, (tt, (tt, (tt, tt)))) (e .0)) in
-    let O : Opened w = record { based = G .base-fits; faultless = c .0 } in
-    rw (e .1) (conclusions O t offers (G .unaltered)
-    (fine-run O t {D = distinctGroups offers} (G .room) offers (G .unaltered) (λ o m a b q. different-has (groupsOf offers) (a, b) (groups-has offers o a b m q)) [] _ (fine-start w (distinctGroups offers) lent refl refl)))
+    let z : Demand3 (opened w lent .window) t (receivedFrom (opened w lent .window) (opened w lent .store) offers) (run (opened w lent) offers .store) =
+    demand3-from (opened w lent) t offers (given-from refl refl G) .demand in
+    rw (← none-held w lent offers) (subst (λ x. Demand3 (x .window) t (receivedFrom (x .window) (x .store) offers) (run (opened w lent) offers .store)) (e .1) z)
 
 -- demand 3, of two lists
 pub demand3-same : ClaimSame
-demand3-same base ssrc l d p n k lent other t u offers others G H same =
-    same-marks (demand3 base ssrc l d p n k lent t offers G) (demand3 base ssrc l d p n k other u others H) same
+demand3-same base ssrc l d p n k lent other t u offers others G H names i h =
+    let w : Window = asked base ssrc l d p n k in
+    let e = opening w lent (G .fresh) in
+    let f = opening w other (H .fresh) in
+    let held : (r : Store) (os : List Offer) → opened w r .answer ≡ Done 0 → receivedFrom (opened w r .window) (opened w r .store) os ≡ namesOf os =
+    λ r os q. ap (λ x. receivedFrom (x .window) (x .store) os) (opening w r q .1) ∙ none-held w r os in
+    demand3-same-from (opened w lent) (opened w other) t u offers others (given-from refl refl G) (given-from refl refl H) (rw (e .1, f .1))
+    (rw (held lent offers (G .fresh), held other others (H .fresh)) names) i (rw (e .1) h)
 
 -- so a media packet that was received is present
-pub received-present : {w : Window} {t : Stretch w} {offers : List Offer} {s : Store} → Demand3 w t offers s
-    → (i : ℕ) → i < w .n → Received offers (mediaName (numberAt width (w .base) i)) → markAt s i ≡ 1
+pub received-present : {w : Window} {t : Stretch} {received : List Name} {s : Store} → Demand3 w t received s
+    → (i : ℕ) → i < w .n → Received received (mediaName (numberAt width (w .base) i)) → markAt s i ≡ 1
 received-present A i h m = ⊎-elim (λ e. let q = A .missing i h .0 e in absurd (q .1 .unreceived i (q .2) m)) (λ e. e) (A .mark i h)

@@ -1,5 +1,5 @@
 -- What every accepted offer leaves, unaltered or not (01, "Taking a packet in"; 00, demand 2): a store in order, in which every parity
--- packet in hand covers at least two missing packets; and a count that is the rise in packets present, less the media packet itself.
+-- packet in hand covers at least two missing packets (leastMissing); and a count that is the rise in packets present, less the media packet itself.
 use mathlib.Core.Path.{_≡_, refl, sym, ap, _∙_}
 use mathlib.Core.Bool.{true, false}
 use mathlib.Core.List.{List}
@@ -10,8 +10,10 @@ use Rattle.answer.specs.declared.Answer.the-variants.{Done}
 use Rattle.answer.specs.First.{first}
 use Rattle.rtp.specs.Fec.{column, row}
 use Rattle.window.specs.declared.Window.{Window}
+use Rattle.window.specs.Limits.{leastMissing, rows}
 use Rattle.window.specs.Store.{Store}
 use Rattle.window.specs.Order.{inUse, missingAt, disorder}
+use Rattle.calls.specs.Content.{Content}
 use Rattle.calls.specs.Accept.{acceptMedia, acceptParity}
 use Rattle.calls.specs.Call.{Outcome, mediaOfferTests, parityOfferTests, begun, settled, refused, offeredMedia, offeredParity}
 use Rattle.peel.specs.Peel as Peel
@@ -30,7 +32,7 @@ itself rowPort = 0
 -- what an accepted offer leaves
 pub record Left (p : Port) (w : Window) (count : ℕ) (x : Outcome) : Type 0 where
   pub in-order : disorder (x .window) (x .store) ≡ false
-  pub waits : (r : ℕ) → r < x .window .k → inUse (x .store) r ≡ true → 2 ≤ length (missingAt (x .window) (x .store) r)
+  pub waits : (r : ℕ) → r < rows (x .window) → inUse (x .window) (x .store) r ≡ true → leastMissing ≤ length (missingAt (x .window) (x .store) r)
   pub rise : x .window .present ≡ w .present + itself p + count
 
 -- an offer that was done met no refusal
@@ -45,7 +47,7 @@ parity-done stream w g s c =
     done-first (parityOfferTests w stream g s) (settled (acceptParity stream g (begun w s))) (refused (first (parityOfferTests w stream g s)) w s) (first (parityOfferTests w stream g s)) c refl
 
 -- what settling leaves, read off the outcome
-left-by : (p : Port) (w : Window) {s : Store} {o : Peel.Offer (ℕ × ℕ) Packet} {x : Outcome} (c : ℕ) → Settled w (w .present) s o (itself p) x → x .answer ≡ Done c → Left p w c x
+left-by : (p : Port) (w : Window) {s : Store} {o : Peel.Offer (ℕ × ℕ) Content Packet} {x : Outcome} (c : ℕ) → Settled w (w .present) s o (itself p) x → x .answer ≡ Done c → Left p w c x
 left-by p w {x = x} c t e = record {
   in-order = rw (t .window) (good-order w (t .present) (t .used) (x .store) (t .order));
   waits = rw (t .window) (t .order .waits .least);
@@ -64,8 +66,8 @@ module _ (o : Offer) (w : Window) (s : Store) (count : ℕ) (base-fits : w .base
   settled-order = left (o .port) (o .datagram) w s count base-fits accepted .in-order
 
   -- and every record in use covers at least two missing packets
-  pub settled-waiting : (r : ℕ) → r < offered o w s .window .k → inUse (offered o w s .store) r ≡ true
-      → 2 ≤ length (missingAt (offered o w s .window) (offered o w s .store) r)
+  pub settled-waiting : (r : ℕ) → r < rows (offered o w s .window) → inUse (offered o w s .window) (offered o w s .store) r ≡ true
+      → leastMissing ≤ length (missingAt (offered o w s .window) (offered o w s .store) r)
   settled-waiting = left (o .port) (o .datagram) w s count base-fits accepted .waits
 
   -- the count is the rise in packets present, less the media packet itself

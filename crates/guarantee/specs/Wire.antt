@@ -1,7 +1,7 @@
 -- What a receiver reads in an unaltered datagram (calls' Datagram.antt): its own fields, and no fault of refusals 6 to 12.
 use mathlib.Core.Path.{_≡_, refl, sym, ap}
 use mathlib.Core.Bool.{Bool, true, false, not, cond}
-use mathlib.Core.List.{List, [], _∷_, map, List·Memᴰ, List·Memᴰ·head, List·Memᴰ·tail}
+use mathlib.Core.List.{List, [], _∷_, List·Memᴰ, List·Memᴰ·head, List·Memᴰ·tail}
 use Prim.Native.Nat.{ℕ, _+_, _*_, _-_, _/_, _%_, _^_, _<_, _≤_}
 use native.Mathlib.Nat.{div-div-eq-div-mul}
 use native.Mathlib.Omega.{arith}
@@ -10,12 +10,13 @@ use lib.Dec.{eqb}
 use lib.Bits.{xor-lt}
 use borrow.Author.Tests.{eq-eqb, le-ltb}
 use Rattle.answer.specs.First.{None}
-use Rattle.xor.specs.Xor.{xorAll, xorPayloads}
 use Rattle.rtp.specs.Bytes.{be16, be32}
-use Rattle.rtp.specs.Rtp.{sequenceNumber, timestamp}
-use Rattle.rtp.specs.Fec.{offsetOf, naOf, byNa, snbase, timestampRecovery}
+use Rattle.rtp.specs.Rtp.{sequenceNumber}
+use Rattle.rtp.specs.Fec.{offsetOf, naOf, byNa, snbase}
 use Rattle.rtp.specs.Faults.{noRow, badFec, badRecovery, badProfile, mediaTests, parityTests}
+use Rattle.calls.specs.Content.{Content, xorContents}
 use Rattle.calls.specs.Datagram.{mediaPacket, Outer, parityPacket}
+use Rattle.calls.specs.Accept.{contentOf, recoveryOf}
 
 -- ---- numbers, written and read
 
@@ -31,45 +32,45 @@ read32 x h =
     rw (a, b) (omega arith)
 
 -- the exclusive-or of timestamps is of 32 bits
-pub timestamps-lt : (f : ℕ → ℕ) (g : List ℕ) → ((j : ℕ) → List·Memᴰ j g → f j < 2 ^ 32) → xorAll (map f g) < 2 ^ 32
-timestamps-lt f [] h = omega arith
-timestamps-lt f (j ∷ g) h = xor-lt 32 (f j) (xorAll (map f g)) (h j (List·Memᴰ·head refl)) (timestamps-lt f g (λ i m. h i (List·Memᴰ·tail m)))
+pub timestamps-lt : (p : ℕ) (t : ℕ → Content) (g : List ℕ) → ((j : ℕ) → List·Memᴰ j g → t j .timestamp < 2 ^ 32) → xorContents p t g .timestamp < 2 ^ 32
+timestamps-lt p t [] h = omega arith
+timestamps-lt p t (j ∷ g) h = xor-lt 32 (t j .timestamp) (xorContents p t g .timestamp) (h j (List·Memᴰ·head refl)) (timestamps-lt p t g (λ i m. h i (List·Memᴰ·tail m)))
 
 -- ---- media
 
-module _ (number timestamp′ ssrc : ℕ) (payload : List ℕ) where
+module _ (number ssrc : ℕ) (c : Content) where
   -- its sequence number is read
-  pub media-number : number < 2 ^ 16 → sequenceNumber (mediaPacket number timestamp′ ssrc payload) ≡ number
+  pub media-number : number < 2 ^ 16 → sequenceNumber (mediaPacket number ssrc c) ≡ number
   media-number h = read16 number h
 
-  -- its timestamp is read
-  pub media-timestamp : timestamp′ < 2 ^ 32 → timestamp (mediaPacket number timestamp′ ssrc payload) ≡ timestamp′
-  media-timestamp h = read32 timestamp′ h
+  -- its content is read
+  pub media-content : c .timestamp < 2 ^ 32 → contentOf (mediaPacket number ssrc c) ≡ c
+  media-content h = λ k. record { timestamp = read32 (c .timestamp) h k; payload = c .payload }
 
   -- refusals 6 to 9 do not apply to it
-  pub media-faultless : (p : ℕ) → length payload ≡ p → None (mediaTests p (mediaPacket number timestamp′ ssrc payload))
+  pub media-faultless : (p : ℕ) → length (c .payload) ≡ p → None (mediaTests p (mediaPacket number ssrc c))
   media-faultless p h = (
-    le-ltb (length (mediaPacket number timestamp′ ssrc payload)) 12 (omega arith),
-    (refl, (refl, (ap not (eq-eqb (length (mediaPacket number timestamp′ ssrc payload) - 12) p (omega arith)), tt))),
+    le-ltb (length (mediaPacket number ssrc c)) 12 (omega arith),
+    (refl, (refl, (ap not (eq-eqb (length (mediaPacket number ssrc c) - 12) p (omega arith)), tt))),
   )
 
 -- ---- parity
 
-module _ (o : Outer) (stream l d p snbase′ : ℕ) (timestamps : List ℕ) (payloads : List (List ℕ)) where
+module _ (o : Outer) (stream l d p snbase′ : ℕ) (c : Content) where
   -- its SNBase is read
-  pub parity-snbase : snbase′ < 2 ^ 16 → snbase (parityPacket o stream l d p snbase′ timestamps payloads) ≡ snbase′
+  pub parity-snbase : snbase′ < 2 ^ 16 → snbase (parityPacket o stream l d p snbase′ c) ≡ snbase′
   parity-snbase h = read16 snbase′ h
 
-  -- its timestamp recovery is read
-  pub parity-timestamp : xorAll timestamps < 2 ^ 32 → timestampRecovery (parityPacket o stream l d p snbase′ timestamps payloads) ≡ xorAll timestamps
-  parity-timestamp h = read32 (xorAll timestamps) h
+  -- its recovery is read
+  pub parity-recovery : c .timestamp < 2 ^ 32 → recoveryOf (parityPacket o stream l d p snbase′ c) ≡ c
+  parity-recovery h = λ k. record { timestamp = read32 (c .timestamp) h k; payload = c .payload }
 
   -- refusals 6 to 12 do not apply to it
-  pub parity-faultless : stream ≤ 1 → p < 2 ^ 16 → noRow stream l ≡ false → length (xorPayloads p payloads) ≡ p
-      → None (parityTests stream l d p (parityPacket o stream l d p snbase′ timestamps payloads))
+  pub parity-faultless : stream ≤ 1 → p < 2 ^ 16 → noRow stream l ≡ false → length (c .payload) ≡ p
+      → None (parityTests stream l d p (parityPacket o stream l d p snbase′ c))
   parity-faultless hs hp nr size = (
-    le-ltb (length (parityPacket o stream l d p snbase′ timestamps payloads)) 28 (omega (arith, size)),
-    (refl, (refl, (ap not (eq-eqb (length (parityPacket o stream l d p snbase′ timestamps payloads) - 28) p (omega (arith, size))), (fec, (recovery, (profile, tt)))))),
+    le-ltb (length (parityPacket o stream l d p snbase′ c)) 28 (omega (arith, size)),
+    (refl, (refl, (ap not (eq-eqb (length (parityPacket o stream l d p snbase′ c) - 28) p (omega (arith, size))), (fec, (recovery, (profile, tt)))))),
   )
     where
       small : (b : Bool) (v m : ℕ) → v < m → 0 < m → cond b 0 v < m
@@ -82,11 +83,11 @@ module _ (o : Outer) (stream l d p snbase′ : ℕ) (timestamps : List ℕ) (pay
       size-lt : byNa (naOf stream l d) p < 2 ^ 16
       size-lt = small (eqb (naOf stream l d % 2) 0) p (2 ^ 16) hp (omega arith)
 
-      fec : badFec (parityPacket o stream l d p snbase′ timestamps payloads) ≡ false
+      fec : badFec (parityPacket o stream l d p snbase′ c) ≡ false
       fec = rw (eq-eqb ((128 + byNa (naOf stream l d) 33) / 128) 1 (omega (arith, type-lt)), eq-eqb (stream * 64 / 128) 0 (omega arith), eq-eqb (stream * 64 / 8 % 8) 0 (omega arith), eq-eqb (stream * 64 % 8) 0 (omega arith))
 
-      recovery : badRecovery stream l d p (parityPacket o stream l d p snbase′ timestamps payloads) ≡ false
+      recovery : badRecovery stream l d p (parityPacket o stream l d p snbase′ c) ≡ false
       recovery = rw (eq-eqb ((128 + byNa (naOf stream l d) 33) % 128) (byNa (naOf stream l d) 33) (omega (arith, type-lt)), eq-eqb (be16 (byNa (naOf stream l d) p / 256 % 256) (byNa (naOf stream l d) p % 256)) (byNa (naOf stream l d) p) (read16 (byNa (naOf stream l d) p) size-lt))
 
-      profile : badProfile stream l d (parityPacket o stream l d p snbase′ timestamps payloads) ≡ false
+      profile : badProfile stream l d (parityPacket o stream l d p snbase′ c) ≡ false
       profile = rw (eq-eqb (stream * 64 / 64 % 2) stream (omega arith), eq-eqb (offsetOf stream l) (offsetOf stream l) refl, eq-eqb (naOf stream l d) (naOf stream l d) refl, nr)

@@ -84,7 +84,7 @@ module _ (w : Window) (stream : ℕ) (g marks parity : List ℕ) (hs : List Row)
       beyond-14 : (media timestamps : List ℕ) (t : List Record) → Fits t (w .k) hs → (r : ℕ) → r ≡ first (drop 2 (tests media timestamps t)) → r ≡ first (tests media timestamps t)
       beyond-14 media timestamps t f r k = beyond-13 media timestamps t r (first-past r 14 _ _ (same-is media timestamps t f ∙ other) k)
 
-      held-is : (media timestamps : List ℕ) (t : List Record) → Fits t (w .k) hs → any (holds (stored media timestamps marks parity (scatter hs t)) stream (snbase g)) (upTo (w .k)) ≡ held
+      held-is : (media timestamps : List ℕ) (t : List Record) → Fits t (w .k) hs → any (holds w (stored media timestamps marks parity (scatter hs t)) stream (snbase g)) (upTo (w .k)) ≡ held
       held-is media timestamps t f = holds-rows w stream (snbase g) media timestamps marks parity hs t f ∙ ap (λ (n : ℕ). any (rowHolds hs stream (snbase g)) (upTo n)) long ∙ ap (λ (n : ℕ). any (rowHolds hs stream n) (upTo m)) (sym eb) ∙ sym eh
 
       pub no-15 : held ≡ true → Found w stream g marks parity hs (no 15)

@@ -19,10 +19,10 @@ use Rattle.offer.specs.Rows.{rowHolds, rowSame}
 
 module _ (w : Window) (stream : ℕ) where
   pub holds-rows : (b : ℕ) (media timestamps marks parity : List ℕ) (hs : List Row) (t : List Record) (f : Fits t (w .k) hs)
-      → any (holds (stored media timestamps marks parity (scatter hs t)) stream b) (upTo (w .k)) ≡ any (rowHolds hs stream b) (upTo (length hs))
+      → any (holds w (stored media timestamps marks parity (scatter hs t)) stream b) (upTo (w .k)) ≡ any (rowHolds hs stream b) (upTo (length hs))
   holds-rows b media timestamps marks parity hs t f =
-      any-rows (holds (stored media timestamps marks parity (scatter hs t)) stream b) f (λ r l e. rw e)
-      ∙ any-same (λ i. holds (stored media timestamps marks parity (scatter hs t)) stream b (slotAt hs i)) (rowHolds hs stream b) (length hs) (λ i l. rw (get-scatter (f .apart) (f .enough) i l))
+      any-rows (holds w (stored media timestamps marks parity (scatter hs t)) stream b) f (λ r l e. rw e)
+      ∙ any-same (λ i. holds w (stored media timestamps marks parity (scatter hs t)) stream b (slotAt hs i)) (rowHolds hs stream b) (length hs) (λ i l. rw (get-scatter (f .apart) (f .enough) i l))
 
   pub same-rows : (g media timestamps marks parity : List ℕ) (hs : List Row) (t : List Record) (f : Fits t (w .k) hs)
       → any (holdsSame w (stored media timestamps marks parity (scatter hs t)) stream g) (upTo (w .k)) ≡ any (rowSame (w .p) parity hs stream g) (upTo (length hs))

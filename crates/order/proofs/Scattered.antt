@@ -75,7 +75,7 @@ module _ (w : Window) (media timestamps marks parity : List ℕ) {t : List Recor
   row-is i l = get-scatter (f .apart) (f .enough) i l
 
   -- whether the record at the slot of a row is the first of its group is seen in the rows before
-  first-is : (i : ℕ) → i < length hs → isFirst S (slotAt hs i) ≡ not (any (names hs (itAt hs i)) (upTo i))
+  first-is : (i : ℕ) → i < length hs → isFirst w S (slotAt hs i) ≡ not (any (names hs (itAt hs i)) (upTo i))
   first-is i l =
       let v = recordAt S (slotAt hs i) in
       ap not
@@ -90,7 +90,7 @@ module _ (w : Window) (media timestamps marks parity : List ℕ) {t : List Recor
   test-row : (i : ℕ) → i < length hs → test (slotAt hs i) ≡ rowGood w marks hs i
   test-row i l =
       let v = recordAt S (slotAt hs i) in
-      by-mark (v .«in_use») (ltb (slotAt hs i) (w .k)) (shapeGood w (v .stream) (v .snbase)) (isFirst S (slotAt hs i)) (waiting w S (slotAt hs i)) (lt-ltb _ _ (within (f .apart) i l))
+      by-mark (v .«in_use») (ltb (slotAt hs i) (w .k)) (shapeGood w (v .stream) (v .snbase)) (isFirst w S (slotAt hs i)) (waiting w S (slotAt hs i)) (lt-ltb _ _ (within (f .apart) i l))
       ∙ ap (λ (b : Bool). cond (eqb (v .«in_use») 0) true (eqb (v .«in_use») 1 && (ltb (slotAt hs i) (w .k) && (shapeGood w (v .stream) (v .snbase) && (b && leb leastMissing (missingOf w marks v)))))) (first-is i l)
       ∙ ap (λ (u : Record). rowBy w marks u (slotAt hs i) (any (names hs (itAt hs i)) (upTo i))) (row-is i l)
 
@@ -101,7 +101,7 @@ module _ (w : Window) (media timestamps marks parity : List ℕ) {t : List Recor
       ∙ all-same (λ (i : ℕ). test (slotAt hs i)) (rowGood w marks hs) (length hs) test-row
 
   -- as many records are in use as rows
-  pub used-rows : count (inUse S) (upTo (w .k)) ≡ count (λ i. used (itAt hs i)) (upTo (length hs))
+  pub used-rows : count (inUse w S) (upTo (w .k)) ≡ count (λ i. used (itAt hs i)) (upTo (length hs))
   used-rows =
-      count-rows (inUse S) f (λ r l g. none-used _ g)
-      ∙ count-same (λ (i : ℕ). inUse S (slotAt hs i)) (λ (i : ℕ). used (itAt hs i)) (length hs) (λ i l. ap used (row-is i l))
+      count-rows (inUse w S) f (λ r l g. none-used _ g)
+      ∙ count-same (λ (i : ℕ). inUse w S (slotAt hs i)) (λ (i : ℕ). used (itAt hs i)) (length hs) (λ i l. ap used (row-is i l))

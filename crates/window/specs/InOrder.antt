@@ -9,7 +9,7 @@ use borrow.Author.Tests.{leb-true, le-leb, eqb-true, eq-eqb, not-true, not-false
 use Rattle.sequence.specs.Lists.{upTo, all, any, count, and-split, all-true, true-all, any-false, false-any}
 use Rattle.rtp.specs.Faults.{noRow}
 use Rattle.window.specs.declared.Window.{Window}
-use Rattle.window.specs.Limits.{leastMissing}
+use Rattle.window.specs.Limits.{leastMissing, rows}
 use Rattle.window.specs.Store.{Store, recordAt}
 use Rattle.window.specs.Group.{inside}
 use Rattle.window.specs.Order.{isMark, isPresent, inUse, missingAt, shapeGood, sameGroup, isFirst, waiting, recordGood, marksGood, recordsGood, countsGood, disorder}
@@ -19,16 +19,16 @@ pub record Waits (w : Window) (s : Store) (r : ℕ) : Type 0 where
   pub stream-high : recordAt s r .stream ≤ 1
   pub row-permitted : noRow (recordAt s r .stream) (w .l) ≡ false
   pub lies-inside : inside w (recordAt s r .stream) (recordAt s r .snbase) ≡ true
-  pub is-first : (q : ℕ) → q < r → inUse s q ≡ true → sameGroup (recordAt s q) (recordAt s r) ≡ false
+  pub is-first : (q : ℕ) → q < r → inUse w s q ≡ true → sameGroup (recordAt s q) (recordAt s r) ≡ false
   pub waits-for : leastMissing ≤ length (missingAt w s r)
 
 -- a store in order
 pub record InOrder (w : Window) (s : Store) : Type 0 where
   pub marks-good : (i : ℕ) → i < w .n → getD (s .marks) i 0 ≤ 1
-  pub uses-good : (r : ℕ) → r < w .k → recordAt s r .«in_use» ≤ 1
-  pub records-wait : (r : ℕ) → r < w .k → inUse s r ≡ true → Waits w s r
+  pub uses-good : (r : ℕ) → r < rows w → recordAt s r .«in_use» ≤ 1
+  pub records-wait : (r : ℕ) → r < rows w → inUse w s r ≡ true → Waits w s r
   pub present-count : w .present ≡ count (isPresent (s .marks)) (upTo (w .n))
-  pub use-count : w .«in_use» ≡ count (inUse s) (upTo (w .k))
+  pub use-count : w .«in_use» ≡ count (inUse w s) (upTo (rows w))
 
 -- ---- from the test to the facts, and back
 past : (a b : Bool) → a ≡ true → (not a || b) ≡ true → b ≡ true
@@ -43,12 +43,12 @@ module _ (w : Window) (s : Store) where
 
   -- a record before r is in use and names r's group
   abbrev before : ℕ → ℕ → Bool
-  before r q = inUse s q && sameGroup (recordAt s q) (recordAt s r)
+  before r q = inUse w s q && sameGroup (recordAt s q) (recordAt s r)
 
-  pub waits : (r : ℕ) → inUse s r ≡ true → recordGood w s r ≡ true → Waits w s r
+  pub waits : (r : ℕ) → inUse w s r ≡ true → recordGood w s r ≡ true → Waits w s r
   waits r u e =
-      let g = and-split (shape r && isFirst s r) (waiting w s r) (past (inUse s r) (shape r && isFirst s r && waiting w s r) u e) in
-      let f = and-split (shape r) (isFirst s r) (g .0) in
+      let g = and-split (shape r && isFirst w s r) (waiting w s r) (past (inUse w s r) (shape r && isFirst w s r && waiting w s r) u e) in
+      let f = and-split (shape r) (isFirst w s r) (g .0) in
       let v = recordAt s r in
       let h = and-split (leb (v .stream) 1 && not (noRow (v .stream) (w .l))) (inside w (v .stream) (v .snbase)) (f .0) in
       let i = and-split (leb (v .stream) 1) (not (noRow (v .stream) (w .l))) (h .0) in
@@ -56,7 +56,7 @@ module _ (w : Window) (s : Store) where
         stream-high = leb-true (v .stream) 1 (i .0);
         row-permitted = not-true (noRow (v .stream) (w .l)) (i .1);
         lies-inside = h .1;
-        is-first = λ q l u′. under (inUse s q) (sameGroup (recordAt s q) (recordAt s r)) (any-false (before r) r (not-true (any (before r) (upTo r)) (f .1)) q l) u′;
+        is-first = λ q l u′. under (inUse w s q) (sameGroup (recordAt s q) (recordAt s r)) (any-false (before r) r (not-true (any (before r) (upTo r)) (f .1)) q l) u′;
         waits-for = leb-true leastMissing (length (missingAt w s r)) (g .1);
       }
 
@@ -65,7 +65,7 @@ module _ (w : Window) (s : Store) where
   in-order e =
       let a = and-split (marksGood w (s .marks) && recordsGood w s) (countsGood w s) (not-false (marksGood w (s .marks) && recordsGood w s && countsGood w s) e) in
       let b = and-split (marksGood w (s .marks)) (recordsGood w s) (a .0) in
-      let n = and-split (eqb (w .present) (count (isPresent (s .marks)) (upTo (w .n)))) (eqb (w .«in_use») (count (inUse s) (upTo (w .k)))) (a .1) in
+      let n = and-split (eqb (w .present) (count (isPresent (s .marks)) (upTo (w .n)))) (eqb (w .«in_use») (count (inUse w s) (upTo (w .k)))) (a .1) in
       let each : (r : ℕ) → r < w .k → (isMark (recordAt s r .«in_use») ≡ true) × (recordGood w s r ≡ true) =
       λ r l. and-split (isMark (recordAt s r .«in_use»)) (recordGood w s r) (all-true (λ r. isMark (recordAt s r .«in_use») && recordGood w s r) (w .k) (b .1) r l) in
       record {
@@ -73,7 +73,7 @@ module _ (w : Window) (s : Store) where
         uses-good = λ r l. leb-true (recordAt s r .«in_use») 1 (each r l .0);
         records-wait = λ r l u. waits r u (each r l .1);
         present-count = eqb-true (w .present) (count (isPresent (s .marks)) (upTo (w .n))) (n .0);
-        use-count = eqb-true (w .«in_use») (count (inUse s) (upTo (w .k))) (n .1);
+        use-count = eqb-true (w .«in_use») (count (inUse w s) (upTo (w .k))) (n .1);
       }
 
 both : {a b : Bool} → a ≡ true → b ≡ true → (a && b) ≡ true
@@ -88,15 +88,15 @@ good-where true b h = h refl
 good-where false b h = refl
 
 module _ (w : Window) (s : Store) where
-  pub waits-good : (r : ℕ) → (inUse s r ≡ true → Waits w s r) → recordGood w s r ≡ true
+  pub waits-good : (r : ℕ) → (inUse w s r ≡ true → Waits w s r) → recordGood w s r ≡ true
   waits-good r h =
-      good-where (inUse s r) (shape w s r && isFirst s r && waiting w s r)
+      good-where (inUse w s r) (shape w s r && isFirst w s r && waiting w s r)
       (λ u.
       let g = h u in
       both
       (both
       (both (both (le-leb (recordAt s r .stream) 1 (g .stream-high)) (ap not (g .row-permitted))) (g .lies-inside))
-      (ap not (false-any (before w s r) r (λ q l. apart (inUse s q) (sameGroup (recordAt s q) (recordAt s r)) (g .is-first q l)))))
+      (ap not (false-any (before w s r) r (λ q l. apart (inUse w s q) (sameGroup (recordAt s q) (recordAt s r)) (g .is-first q l)))))
       (le-leb leastMissing (length (missingAt w s r)) (g .waits-for)))
 
   pub order-in : InOrder w s → disorder w s ≡ false
@@ -109,4 +109,4 @@ module _ (w : Window) (s : Store) where
       (true-all (λ r. isMark (recordAt s r .«in_use») && recordGood w s r) (w .k) (λ r l. both (le-leb (recordAt s r .«in_use») 1 (o .uses-good r l)) (waits-good r (o .records-wait r l)))))
       (both
       (eq-eqb (w .present) (count (isPresent (s .marks)) (upTo (w .n))) (o .present-count))
-      (eq-eqb (w .«in_use») (count (inUse s) (upTo (w .k))) (o .use-count))))
+      (eq-eqb (w .«in_use») (count (inUse w s) (upTo (w .k))) (o .use-count))))

@@ -33,6 +33,18 @@ mostCounted = 1000
 abbrev pub leastMissing : ℕ
 leastMissing = 2
 
+-- how many records the lent table has: K
+abbrev pub rows : Window → ℕ
+rows w = w .k
+
+-- how many parity packets may be in hand at once: K
+abbrev pub room : Window → ℕ
+room w = w .k
+
+-- the in-use mark of this window's records: 1
+abbrev pub useMark : Window → ℕ
+useMark w = 1
+
 -- 1: not 1 ≤ L ≤ 20, 4 ≤ D ≤ 20, L × D ≤ 100 (004, 4.5.3)
 abbrev pub badProfile : Window → Bool
 badProfile w = ltb (w .l) 1 || ltb mostSide (w .l) || ltb (w .d) 4 || ltb mostSide (w .d) || ltb mostMatrix (w .l * w .d)
@@ -47,7 +59,7 @@ badPayload w = not (oneToSeven 188 (w .p) || oneToSeven 204 (w .p))
 
 -- 3: not L × D ≤ n ≤ 400, 1 ≤ K ≤ 128
 abbrev pub badRoom : Window → Bool
-badRoom w = ltb (w .n) (w .l * w .d) || ltb mostPositions (w .n) || ltb (w .k) 1 || ltb mostRecords (w .k)
+badRoom w = ltb (w .n) (w .l * w .d) || ltb mostPositions (w .n) || ltb (rows w) 1 || ltb mostRecords (rows w)
 
 -- what a made-up window value meets first
 abbrev pub setUpTests : Window → List (ℕ × Bool)

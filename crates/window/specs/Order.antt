@@ -8,7 +8,7 @@ use Rattle.sequence.specs.Lists.{upTo, all, any, count}
 use Rattle.rtp.specs.Faults.{noRow}
 use Rattle.window.specs.declared.Record.{Record}
 use Rattle.window.specs.declared.Window.{Window}
-use Rattle.window.specs.Limits.{leastMissing}
+use Rattle.window.specs.Limits.{leastMissing, rows, useMark}
 use Rattle.window.specs.Store.{Store, recordAt}
 use Rattle.window.specs.Group.{group, inside, missing}
 
@@ -24,9 +24,13 @@ isPresent marks i = eqb (getD marks i 0) 1
 abbrev pub used : Record → Bool
 used v = eqb (v .«in_use») 1
 
--- record r of the table is in use
-abbrev pub inUse : Store → ℕ → Bool
-inUse s r = used (recordAt s r)
+-- a record is in use by a window: its mark is the window's
+abbrev pub usedBy : Window → Record → Bool
+usedBy w v = eqb (v .«in_use») (useMark w)
+
+-- record r of the table is in use by a window
+abbrev pub inUse : Window → Store → ℕ → Bool
+inUse w s r = usedBy w (recordAt s r)
 
 -- the group of a record
 abbrev pub groupAt : Window → Store → ℕ → List ℕ
@@ -45,8 +49,8 @@ abbrev pub sameGroup : Record → Record → Bool
 sameGroup v u = eqb (v .stream) (u .stream) && eqb (v .snbase) (u .snbase)
 
 -- no record in use before r names r's group
-abbrev pub isFirst : Store → ℕ → Bool
-isFirst s r = not (any (λ q. inUse s q && sameGroup (recordAt s q) (recordAt s r)) (upTo r))
+abbrev pub isFirst : Window → Store → ℕ → Bool
+isFirst w s r = not (any (λ q. inUse w s q && sameGroup (recordAt s q) (recordAt s r)) (upTo r))
 
 -- as many of a record's group are missing as a parity packet in hand has to wait for
 abbrev pub waiting : Window → Store → ℕ → Bool
@@ -54,7 +58,7 @@ waiting w s r = leb leastMissing (length (missingAt w s r))
 
 -- a record is free, or it is of good shape, the first of its group, and waits
 abbrev pub recordGood : Window → Store → ℕ → Bool
-recordGood w s r = not (inUse s r) || (shapeGood w (recordAt s r .stream) (recordAt s r .snbase) && isFirst s r && waiting w s r)
+recordGood w s r = not (inUse w s r) || (shapeGood w (recordAt s r .stream) (recordAt s r .snbase) && isFirst w s r && waiting w s r)
 
 -- every present mark is 0 or 1
 abbrev pub marksGood : Window → (marks : List ℕ) → Bool
@@ -62,11 +66,11 @@ marksGood w marks = all (λ i. isMark (getD marks i 0)) (upTo (w .n))
 
 -- every in-use mark is 0 or 1, and every record is good
 abbrev pub recordsGood : Window → Store → Bool
-recordsGood w s = all (λ r. isMark (recordAt s r .«in_use») && recordGood w s r) (upTo (w .k))
+recordsGood w s = all (λ r. isMark (recordAt s r .«in_use») && recordGood w s r) (upTo (rows w))
 
 -- the counts of the window value are those of the marks and the records
 abbrev pub countsGood : Window → Store → Bool
-countsGood w s = eqb (w .present) (count (isPresent (s .marks)) (upTo (w .n))) && eqb (w .«in_use») (count (inUse s) (upTo (w .k)))
+countsGood w s = eqb (w .present) (count (isPresent (s .marks)) (upTo (w .n))) && eqb (w .«in_use») (count (inUse w s) (upTo (rows w)))
 
 -- 5: the store is not in order
 unfoldable pub disorder : Window → Store → Bool

@@ -8,6 +8,7 @@ use Rattle.window.specs.declared.Record.{Record}
 use Rattle.window.specs.declared.Sizes.{Sizes}
 use Rattle.window.specs.declared.Window.{Window}
 use Rattle.window.specs.Record.{blank}
+use Rattle.window.specs.Limits.{rows}
 
 -- the lent store: for each position a payload, a timestamp and a present mark; for each record a payload; and the table of records
 pub record Store : Type 0 where
@@ -38,8 +39,8 @@ shortSizes w z =
     ltb (z .media) (w .n * w .p)
     || ltb (z .timestamps) (w .n)
     || ltb (z .marks) (w .n)
-    || ltb (z .parity) (w .k * w .p)
-    || ltb (z .records) (w .k)
+    || ltb (z .parity) (rows w * w .p)
+    || ltb (z .records) (rows w)
 
 -- 4: a part of the store is shorter than the window needs
 abbrev pub shortStore : Window → Store → Bool

@@ -1,0 +1,255 @@
+-- Demand 2 (Demand2.antt), proved: an accepted offer is a run of the theory, whatever it carries, and what such a run leaves is known.
+use mathlib.Core.Path.{_≡_, refl, sym, ap, ap₂, _∙_, subst}
+use mathlib.Core.Logic.{_⊎_, inl, inr}
+use mathlib.Core.Bool.{Bool, true, false, cond}
+use mathlib.Core.List.{List, [], _∷_, _++_, List·Memᴰ, List·Memᴰ·head, List·Memᴰ·tail, List·Memᴰ·eq-of-singleton}
+use Prim.Native.Nat.{ℕ, _+_, _^_, _<_}
+use native.Mathlib.Decide.{ℕ-discrete}
+use native.Mathlib.Omega.{arith}
+use lib.ListN.{length}
+use lib.Dec.{eqb}
+use borrow.Author.Tests.{eqb-true}
+use Rattle.answer.specs.declared.Answer.the-variants.{Done, Refused}
+use Rattle.answer.specs.First.{first}
+use Rattle.xor.specs.Xor.{length-zip}
+use Rattle.sequence.specs.Wrap.{numberAt, numberAt-ahead}
+use Rattle.rtp.specs.Rtp.{rtpHeaderSize, sequenceNumber}
+use Rattle.rtp.specs.Fec.{parityHeaderSize, column, row, snbase}
+use Rattle.window.specs.declared.Window.{Window}
+use Rattle.window.specs.Limits.{width, rows}
+use Rattle.window.specs.Store.{Store}
+use Rattle.window.specs.Group.{position, group, isMissing}
+use Rattle.calls.specs.Content.{Content, xorContent, xorContents, contentAt}
+use Rattle.calls.specs.Datagram.{mediaPacket, parityPacket}
+use Rattle.calls.specs.Accept.{contentOf, recoveryOf}
+use Rattle.calls.specs.Call.{Written, mediaOfferTests, parityOfferTests, offeredMedia, offeredParity, over, readTests, readOut, writeTests, parityOf, wroteParity}
+use Rattle.calls.specs.Passed.{media-passed, parity-passed, read-passed, write-passed}
+use Rattle.peel.specs.Group as Peel
+use Rattle.peel.specs.Peel as Theory
+use Rattle.guarantee.specs.Ranges.{any-none}
+use Rattle.guarantee.specs.Packets.{Packet, xored, zeros, packetOf, contentFrom, length-first, content-from, packet-content, packet-xor, packet-total, length-payloads, length-part}
+use Rattle.guarantee.specs.View.{code, packetAt, view, group-lt, slot-present, slot-is, Good, mark-one}
+use Rattle.guarantee.specs.Order.{standing}
+use Rattle.guarantee.specs.Offers.{media-kept, parity-kept, media-accepted, parity-accepted}
+use Rattle.guarantee.specs.Demand3.{Port, mediaPort, columnPort, rowPort, Offer, callOf, offered, markAt}
+use Rattle.guarantee.specs.Demand2.{Usable, in-hand, column-offered, row-offered, Due, stood, arrived, rebuilt, ClaimDue, ClaimStays, ClaimRead, ClaimWritten}
+use Rattle.guarantee.specs.Sent.{seenOn, seen, not-check}
+
+-- ---- a call as moves of the theory
+
+-- what a datagram on a port carries
+abbrev contentOn : Port → List ℕ → Content
+contentOn mediaPort g = contentOf g
+contentOn columnPort g = recoveryOf g
+contentOn rowPort g = recoveryOf g
+
+-- an accepted offer: the store was in order, what was offered has P bytes, and the call took it in and made steps, and did nothing else
+pub record Moved (p : Port) (g : List ℕ) (w : Window) (s : Store) : Type 1 where
+  pub before : Good w (w .present) (w .«in_use») s
+  pub size : length (contentOn p g .payload) ≡ w .p
+  pub runs : Theory.Runs (code w) (view w s) (seenOn w p g ∷ []) (view w (callOf p w g s .store))
+  pub present : ℕ
+  pub used : ℕ
+  pub after : Good w present used (callOf p w g s .store)
+
+-- a media offer moves so, or it is refused and leaves the store as it was
+media-moves : (g : List ℕ) (w : Window) (s : Store) → w .base < 2 ^ 16 → Dec (first (mediaOfferTests w g s) ≡ 0) → (offeredMedia w g s .store ≡ s) ⊎ Moved mediaPort g w s
+media-moves g w s based (no n) = inl (ap (λ x. x .store) (media-kept w g s n))
+media-moves g w s based (yes e) =
+    let t = media-accepted w based (w .present) (w .«in_use») s g e in
+    let q = media-passed w g s e in
+    inr (record { before = standing w (w .present) (w .«in_use») s (q .standing) .good; size = q .size; runs = t .runs; present = t .present; used = t .used; after = t .order .good })
+
+-- an accepted parity offer was in order and of P bytes
+parity-before : (stream : ℕ) (g : List ℕ) (w : Window) (s : Store) → first (parityOfferTests w stream g s) ≡ 0 → Good w (w .present) (w .«in_use») s × (length (recoveryOf g .payload) ≡ w .p)
+parity-before stream g w s e = let q = parity-passed w stream g s e in (standing w (w .present) (w .«in_use») s (q .standing) .good, q .size)
+
+-- so does a call on any port
+pub moves : (p : Port) (g : List ℕ) (w : Window) (s : Store) → w .base < 2 ^ 16 → (callOf p w g s .store ≡ s) ⊎ Moved p g w s
+moves mediaPort g w s based = media-moves g w s based (ℕ-discrete (first (mediaOfferTests w g s)) 0)
+moves columnPort g w s based = go (ℕ-discrete (first (parityOfferTests w column g s)) 0)
+  where
+    go : Dec (first (parityOfferTests w column g s) ≡ 0) → (offeredParity column w g s .store ≡ s) ⊎ Moved columnPort g w s
+    go (no n) = inl (ap (λ x. x .store) (parity-kept column w g s n))
+    go (yes e) =
+        let t = parity-accepted w based (w .present) (w .«in_use») s g column (omega arith) e in
+        let b = parity-before column g w s e in
+        inr (record { before = b .0; size = b .1; runs = t .runs; present = t .present; used = t .used; after = t .order .good })
+moves rowPort g w s based = go (ℕ-discrete (first (parityOfferTests w row g s)) 0)
+  where
+    go : Dec (first (parityOfferTests w row g s) ≡ 0) → (offeredParity row w g s .store ≡ s) ⊎ Moved rowPort g w s
+    go (no n) = inl (ap (λ x. x .store) (parity-kept row w g s n))
+    go (yes e) =
+        let t = parity-accepted w based (w .present) (w .«in_use») s g row (omega arith) e in
+        let b = parity-before row g w s e in
+        inr (record { before = b .0; size = b .1; runs = t .runs; present = t .present; used = t .used; after = t .order .good })
+
+-- ---- what is known is due
+
+module _ (o : Offer) (w : Window) (s : Store) (M : Moved (o .port) (o .datagram) w s) where
+  -- what the call has received
+  abbrev R : Theory.Set (Theory.Offer (ℕ × ℕ) Content Packet)
+  R = Theory.Plus (Theory.Has (view w s)) (seen w o ∷ [])
+
+  -- a packet is that of a content that is due
+  abbrev DueAt : ℕ → Packet → Type 0
+  DueAt i x = Due w o s i (contentFrom (w .p) x) × (packetOf (contentFrom (w .p) x) ≡ x)
+
+  -- a content of P bytes
+  due-content : {i : ℕ} (c : Content) → length (c .payload) ≡ w .p → Due w o s i c → DueAt i (packetOf c)
+  due-content c size d = let e = content-from (w .p) c size in (rw e d, ap packetOf e)
+
+  -- the media packet offered
+  media-due : (p : Port) → o .port ≡ p → (i : ℕ) (x : Packet) → Theory.media i x ≡ seenOn w p (o .datagram) → length (contentOn p (o .datagram) .payload) ≡ w .p → DueAt i x
+  media-due mediaPort e i x q size =
+      let a : i ≡ position w (sequenceNumber (o .datagram)) = cc in
+      let b : x ≡ packetOf (contentOf (o .datagram)) = cc in
+      rw (a, b) (due-content (contentOf (o .datagram)) size (arrived e))
+  media-due columnPort e i x q size = absurd (not-check q)
+  media-due rowPort e i x q size = absurd (not-check q)
+
+  -- the parity packet offered
+  parity-usable : (p : Port) → o .port ≡ p → (k : ℕ × ℕ) (c : Content) → Theory.check k c ≡ seenOn w p (o .datagram) → length (contentOn p (o .datagram) .payload) ≡ w .p
+      → Usable w o s (k .0) (k .1) c × (length (c .payload) ≡ w .p)
+  parity-usable mediaPort e k c q size = absurd (not-check (sym q))
+  parity-usable columnPort e k c q size =
+      let a : k ≡ (column, snbase (o .datagram)) = cc in
+      let b : c ≡ recoveryOf (o .datagram) = cc in
+      rw (a, b) (column-offered e, size)
+  parity-usable rowPort e k c q size =
+      let a : k ≡ (row, snbase (o .datagram)) = cc in
+      let b : c ≡ recoveryOf (o .datagram) = cc in
+      rw (a, b) (row-offered e, size)
+
+  -- a parity packet that was received may be rebuilt by
+  usable : (k : ℕ × ℕ) (c : Content) → R (Theory.check k c) → Usable w o s (k .0) (k .1) c × (length (c .payload) ≡ w .p)
+  usable k c (inl h) = rw (← h .names, ← h .carries) (in-hand (h .at) (h .below) (h .used), length-part (s .parity) (h .at) (rows w) (w .p) (h .below) (M .before .fits .parity-long))
+  usable k c (inr m) = parity-usable (o .port) refl k c (List·Memᴰ·eq-of-singleton m) (M .size)
+
+  -- the exclusive-or of a recovery and of the others is that of their contents
+  sum-content : (c : Content) → length (c .payload) ≡ w .p → (f : ℕ → Packet) (g : List ℕ) → ((j : ℕ) → List·Memᴰ j g → packetOf (contentFrom (w .p) (f j)) ≡ f j)
+      → (length (xorContent c (xorContents (w .p) (λ j. contentFrom (w .p) (f j)) g) .payload) ≡ w .p)
+      × (packetOf (xorContent c (xorContents (w .p) (λ j. contentFrom (w .p) (f j)) g)) ≡ xored (packetOf c) (Peel.total xored zeros f g))
+  sum-content c size f g e = (length-zip (c .payload) _ (size ∙ sym long) ∙ size, packet-xor c sum (size ∙ sym long) ∙ ap (xored (packetOf c)) (packet-total (w .p) others g sizes ∙ Peel.total-ext xored zeros _ f g e))
+    where
+      others : ℕ → Content
+      others j = contentFrom (w .p) (f j)
+
+      sum : Content
+      sum = xorContents (w .p) others g
+
+      sizes : (j : ℕ) → List·Memᴰ j g → length (others j .payload) ≡ w .p
+      sizes j m = length-first (w .p) _
+
+      long : length (sum .payload) ≡ w .p
+      long = length-payloads (w .p) others g sizes
+
+  -- what the theory knows is due
+  known-due : {i : ℕ} {x : Packet} → Theory.Known (code w) R i x → DueAt i x
+  known-due {i} {x} (Theory.received (inl e)) =
+      let z = slot-is w s i x e in
+      rw (z .2) (due-content (contentAt w s i) (length-part (s .media) i (w .n) (w .p) (z .0) (M .before .fits .media-long)) (stood i (z .0) (mark-one (M .before) i (z .0) (z .1))))
+  known-due {i} {x} (Theory.received (inr m)) = media-due (o .port) refl i x (List·Memᴰ·eq-of-singleton m) (M .size)
+  known-due {i} {x} (Theory.rebuilt k c f a b m e r q) =
+      let u = usable k c m in
+      let z = sum-content c (u .1) f (a ++ b) (λ j n. known-due (r j n) .1) in
+      subst (DueAt i) (z .1 ∙ sym q) (due-content (xorContent c (xorContents (w .p) (λ j. contentFrom (w .p) (f j)) (a ++ b))) (z .0)
+      (rebuilt (k .0) (k .1) c (λ j. contentFrom (w .p) (f j)) i a b (u .0) e (λ j n. known-due (r j n) .0)))
+
+-- ---- the theorems
+
+-- every packet that is present after an offer is due
+pub made-due : ClaimDue
+made-due o w s based i h e = go (moves (o .port) (o .datagram) w s based)
+  where
+    t : Store
+    t = offered o w s .store
+
+    go : (t ≡ s) ⊎ Moved (o .port) (o .datagram) w s → Due w o s i (contentAt w t i)
+    go (inl q) = rw q (stood i h (ap (λ z. markAt z i) (sym q) ∙ e))
+    go (inr M) =
+        let n : isMissing (t .marks) i ≡ false = rw e in
+        let v = Theory.sound-runs (code w) (Theory.sound-has (code w) (view w s)) (M .runs) in
+        subst (Due w o s i) (content-from (w .p) (contentAt w t i) (length-part (t .media) i (w .n) (w .p) h (M .after .fits .media-long)))
+        (known-due o w s M (v .known i (packetAt w t i) (slot-present w t i h n)) .0)
+
+-- a packet that was present stays as it was
+pub made-stays : ClaimStays
+made-stays o w s based i h e = go (moves (o .port) (o .datagram) w s based)
+  where
+    t : Store
+    t = offered o w s .store
+
+    go : (t ≡ s) ⊎ Moved (o .port) (o .datagram) w s → (markAt t i ≡ 1) × (contentAt w t i ≡ contentAt w s i)
+    go (inl q) = rw q (e, refl)
+    go (inr M) =
+        let n : isMissing (s .marks) i ≡ false = rw e in
+        let z = slot-is w t i (packetAt w s i) (Theory.runs-keep (code w) (M .runs) i (packetAt w s i) (slot-present w s i h n)) in (
+          mark-one (M .after) i h (z .1),
+          packet-content (contentAt w t i) (contentAt w s i)
+              (length-part (t .media) i (w .n) (w .p) h (M .after .fits .media-long) ∙ sym (length-part (s .media) i (w .n) (w .p) h (M .before .fits .media-long))) (sym (z .2)),
+        )
+
+-- ---- reading and writing
+
+-- a reading or writing that answers done met no refusal
+written-first : (n : ℕ) (x y : Written) (k c : ℕ) → y .answer ≡ Refused k → cond (eqb n 0) x y .answer ≡ Done c → n ≡ 0
+written-first n x y k c r e = go (eqb n 0) refl e
+  where
+    go : (b : Bool) → eqb n 0 ≡ b → cond b x y .answer ≡ Done c → n ≡ 0
+    go true q h = eqb-true n 0 q
+    go false q h = absurd (let z : _≡_ {A = ℕ} 0 1 = cc in omega arith)
+
+-- reading out of an unaltered store
+pub read-unaltered : ClaimRead
+unfolding readOut
+read-unaltered w t s number c out based ssrc-fits number-fits H e =
+    let z : first (readTests w number s out) ≡ 0 = written-first (first (readTests w number s out))
+    (record { answer = Done (rtpHeaderSize + w .p); window = w; out = over (mediaPacket number (w .ssrc) (contentAt w s (position w number))) out })
+    (record { answer = Refused (first (readTests w number s out)); window = w; out = out }) (first (readTests w number s out)) c refl e in
+    let q = read-passed w number s out z in
+    let m = mark-one (standing w (w .present) (w .«in_use») s (q .standing) .good) (position w number) (q .in-window) (q .present) in
+    rw z (record {
+      datagram = mediaPacket number (w .ssrc) (contentAt w s (position w number));
+      is = record {
+        place = position w number;
+        ssrc = w .ssrc;
+        in-window = q .in-window;
+        ssrc-fits = ssrc-fits;
+        is = ap (λ n. mediaPacket n (w .ssrc) (contentAt w s (position w number))) (sym (numberAt-ahead width (w .base) (omega (arith, based)) number number-fits))
+            ∙ ap (mediaPacket (numberAt width (w .base) (position w number)) (w .ssrc)) (H .media (position w number) (q .in-window) m);
+      };
+      written = refl;
+    })
+
+-- the contents of a list are those sent, where each is
+contents-sent : (p : ℕ) (f t : ℕ → Content) (g : List ℕ) → ((j : ℕ) → List·Memᴰ j g → f j ≡ t j) → xorContents p f g ≡ xorContents p t g
+contents-sent p f t [] h = refl
+contents-sent p f t (j ∷ g) h = ap₂ xorContent (h j (List·Memᴰ·head refl)) (contents-sent p f t g (λ i m. h i (List·Memᴰ·tail m)))
+
+-- writing parity over an unaltered store
+pub parity-unaltered : ClaimWritten
+unfolding wroteParity
+parity-unaltered w t s stream snbase c o out base-fits sequence-fits timestamp-fits ssrc-fits H e =
+    let z : first (writeTests w stream snbase s out) ≡ 0 = written-first (first (writeTests w stream snbase s out))
+    (record { answer = Done (parityHeaderSize + w .p); window = w; out = over (parityOf w o stream snbase s) out })
+    (record { answer = Refused (first (writeTests w stream snbase s out)); window = w; out = out }) (first (writeTests w stream snbase s out)) c refl e in
+    let q = write-passed w stream snbase s out z in
+    let G = standing w (w .present) (w .«in_use») s (q .standing) .good in
+    let each : (j : ℕ) → List·Memᴰ j (group w stream snbase) → contentAt w s j ≡ t j =
+    λ j m. let h = group-lt w stream snbase (q .in-window) j m in H .media j h (mark-one G j h (any-none (isMissing (s .marks)) (group w stream snbase) (q .whole) j m)) in
+    rw z (record {
+      datagram = parityOf w o stream snbase s;
+      is = record {
+        snbase = snbase;
+        outer = o;
+        snbase-fits = base-fits;
+        sequence-fits = sequence-fits;
+        timestamp-fits = timestamp-fits;
+        ssrc-fits = ssrc-fits;
+        permitted = q .permitted;
+        in-window = q .in-window;
+        is = ap (parityPacket o stream (w .l) (w .d) (w .p) snbase) (contents-sent (w .p) (contentAt w s) t (group w stream snbase) each);
+      };
+      written = refl;
+    })
