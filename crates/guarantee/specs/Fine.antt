@@ -24,6 +24,7 @@ use Rattle.calls.specs.Content.{Content, sameContent, contentAt, recoveryAt}
 use Rattle.calls.specs.State.{recount}
 use Rattle.calls.specs.Accept.{contentOf}
 use Rattle.calls.specs.Call.{Outcome, standingTests, mediaPlaceTests, mediaOfferTests, holds, holdsSame, parityPlaceTests, parityOfferTests, offeredMedia, offeredParity}
+use Rattle.calls.specs.Passed.{parity-passed}
 use Rattle.peel.specs.Peel.{Offer, check, Here, pass, Runs, done, took, sound-has, sound-runs}
 use Rattle.guarantee.specs.Ranges.{decide, any-some, upTo-lt, Out, take-out, pigeon}
 use Rattle.guarantee.specs.Packets.{Packet}
@@ -179,3 +180,11 @@ module _ {w : Window} (O : Opened w) {D : List (ℕ × ℕ)} (enough : length D 
       go (inr e) = accepted (paritySeen stream g) key f (parity-accepted w (O .based) (f .present) (f .used) s g stream hs
           (tests ∙ parity-free (not (inside w stream (snbase g))) alike (any in-hand (upTo (rows w))) full (ap not h) (unlike e) e
           (rw (lt-ltb (f .used) (room w) (free e)) (and-false (leb leastMissing (length (missing (s .marks) (group w stream (snbase g)))))))))
+
+-- a parity datagram of a group that does not lie in the window is refused
+pub refused-parity : {w : Window} {D : List (ℕ × ℕ)} {v : Window} {s : Store} (stream : ℕ) (g : List ℕ) → inside w stream (snbase g) ≡ false → Fine w D v s → Goes w D [] s (offeredParity stream v g s)
+refused-parity {w} {D} {v} {s} stream g e f = subst (λ z. Goes w D [] s (offeredParity stream z g s)) (sym (f .window))
+    (rw (parity-kept stream x g s (λ z. true≢false (sym (parity-passed x stream g s z .in-window) ∙ e))) (record { fine = refresh f; runs = done }))
+  where
+    x : Window
+    x = recount w (f .present) (f .used)

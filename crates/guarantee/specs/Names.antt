@@ -22,7 +22,7 @@ use Rattle.guarantee.specs.Ranges.{upTo-lt, upTo-mem, keep-mem, mem-keep
 use Rattle.guarantee.specs.Packets.{Packet, packetOf}
 use Rattle.guarantee.specs.View.{Limits, groupOf, code, Held, packetAt, view, slot-is, slot-present, Good, mark-one}
 use Rattle.guarantee.specs.Demand3.{Offer, Stretch, Fills, Unaltered, Name, mediaName, parityName, nameOf, namesOf, Received, groupNamed, groupsOf, listed, different, distinctGroups}
-use Rattle.guarantee.specs.Start.{Holds, mediaHeld, parityHeld, receivedFrom}
+use Rattle.guarantee.specs.Start.{Holds, mediaHeld, parityHeld, heldAnd}
 use Rattle.guarantee.specs.Sent.{sent, seen, recovery-sum, unaltered-seen, position-number, media-name, name-media, check-name, name-check}
 
 -- ---- the different groups of a list
@@ -71,7 +71,7 @@ module _ {w : Window} (L : Limits w) {t : Stretch} (F : Fills w t) {a u : ℕ} {
   -- ---- from the theory to the names
 
   -- a media packet lies in the window, and its name is received
-  pub media-in : (i : ℕ) (x : Packet) → Got w s offers (Theory.media i x) → (i < w .n) × Received (receivedFrom w s offers) (mediaName (numberAt width (w .base) i))
+  pub media-in : (i : ℕ) (x : Packet) → Got w s offers (Theory.media i x) → (i < w .n) × Received (heldAnd w s offers) (mediaName (numberAt width (w .base) i))
   media-in i x (inl e) =
       let z = slot-is w s i x e in
       let there : List·Memᴰ i (keep (isPresent (s .marks)) (upTo (w .n))) = keep-mem (isPresent (s .marks)) (upTo (w .n)) i (eq-eqb (getD (s .marks) i 0) 1 (mark-one G i (z .0) (z .1))) (upTo-mem (w .n) i (z .0)) in
@@ -82,7 +82,7 @@ module _ {w : Window} (L : Limits w) {t : Stretch} (F : Fills w t) {a u : ℕ} {
       (z .0, Memᴰ·append-right (mediaHeld w s ++ parityHeld w s) (Memᴰ·cast (sym (z .1)) (Memᴰ·map nameOf (o .1))))
 
   -- the group of a check lies in the window, and its name is received
-  pub check-in : (k : ℕ × ℕ) (c : Content) → Got w s offers (Theory.check k c) → (inside w (k .0) (k .1) ≡ true) × Received (receivedFrom w s offers) (parityName (k .0) (k .1))
+  pub check-in : (k : ℕ × ℕ) (c : Content) → Got w s offers (Theory.check k c) → (inside w (k .0) (k .1) ≡ true) × Received (heldAnd w s offers) (parityName (k .0) (k .1))
   check-in k c (inl h) =
       let there : List·Memᴰ (h .at) (keep (inUse w s) (upTo (rows w))) = keep-mem (inUse w s) (upTo (rows w)) (h .at) (h .used) (upTo-mem (rows w) (h .at) (h .below)) in
       let name : List·Memᴰ (parityName (recordAt s (h .at) .stream) (recordAt s (h .at) .snbase)) (parityHeld w s) = Memᴰ·map (λ r. parityName (recordAt s r .stream) (recordAt s r .snbase)) there in
@@ -118,7 +118,7 @@ module _ {w : Window} (L : Limits w) {t : Stretch} (F : Fills w t) {a u : ℕ} {
       same-group {i} {j} {k} {l} e = let y : i ≡ k = cc in let z : j ≡ l = cc in λ h. (y h, z h)
 
   -- a media packet that is received by its name
-  pub in-media : (i : ℕ) → i < w .n → Received (receivedFrom w s offers) (mediaName (numberAt width (w .base) i)) → (x : Packet) × Got w s offers (Theory.media i x)
+  pub in-media : (i : ℕ) → i < w .n → Received (heldAnd w s offers) (mediaName (numberAt width (w .base) i)) → (x : Packet) × Got w s offers (Theory.media i x)
   in-media i h m = ⊎-elim (λ a. ⊎-elim (λ b. let z = held-media i h b in (z .0, inl (z .1))) (λ b. absurd (other b)) (List·Memᴰ·append-cases (mediaHeld w s) a)) listed
       (List·Memᴰ·append-cases (mediaHeld w s ++ parityHeld w s) m)
     where
@@ -132,7 +132,7 @@ module _ {w : Window} (L : Limits w) {t : Stretch} (F : Fills w t) {a u : ℕ} {
           (x .0, inr (Memᴰ·cast (sym (x .1)) (Memᴰ·map (seen w) (o .1))))
 
   -- a parity packet that is received by its name
-  pub in-check : (a b : ℕ) → Received (receivedFrom w s offers) (parityName a b) → (c : Content) × Got w s offers (Theory.check (a, b) c)
+  pub in-check : (a b : ℕ) → Received (heldAnd w s offers) (parityName a b) → (c : Content) × Got w s offers (Theory.check (a, b) c)
   in-check a b m = ⊎-elim (λ q. ⊎-elim (λ n. absurd (other n)) (λ n. let z = held-check a b n in (z .0, inl (z .1))) (List·Memᴰ·append-cases (mediaHeld w s) q)) listed
       (List·Memᴰ·append-cases (mediaHeld w s ++ parityHeld w s) m)
     where

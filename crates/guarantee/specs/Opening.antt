@@ -18,7 +18,7 @@ use Rattle.guarantee.specs.Ranges.{upTo-lt, count-zero, keep-nothing}
 use Rattle.guarantee.specs.Order.{Ordered, stands}
 use Rattle.guarantee.specs.Offers.{none-split, done-first}
 use Rattle.guarantee.specs.Demand3.{Offer, Stretch, Fills, namesOf, markAt}
-use Rattle.guarantee.specs.Start.{Start, receivedFrom}
+use Rattle.guarantee.specs.Start.{Start, counted, receivedFrom}
 
 -- an opening that answered 0 met no refusal, and set the store to zero
 pub opening : (w : Window) (s : Store) → opened w s .answer ≡ Done 0 → (None (setUpTests w)) × (opened w s ≡ record { answer = Done 0; window = w; store = cleared w s })
@@ -80,6 +80,6 @@ module _ (w : Window) (s : Store) where
     };
   }
 
-  -- which holds nothing: what is received is what is in the list
-  pub none-held : (offers : List Offer) → receivedFrom w (cleared w s) offers ≡ namesOf offers
+  -- which holds nothing: what is received is what is in the list and counts
+  pub none-held : (offers : List Offer) → receivedFrom w (cleared w s) offers ≡ namesOf (counted w offers)
   none-held offers = rw (keep-nothing (isPresent (cleared w s .marks)) (upTo (w .n)) (λ i m. absent i (upTo-lt (w .n) i m)), keep-nothing (inUse w (cleared w s)) (upTo (rows w)) (λ r m. unused r (upTo-lt (rows w) r m)))

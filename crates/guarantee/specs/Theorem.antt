@@ -2,14 +2,13 @@
 -- of Fine.antt, and the theory's theorems give the conclusions.
 use mathlib.Core.Path.{_≡_, refl, sym, ap, _∙_, subst}
 use mathlib.Core.Logic.{_⊎_, inl, inr, ⊎-elim}
-use mathlib.Core.Bool.{Bool, true, false, _&&_, true≢false}
+use mathlib.Core.Bool.{Bool, true, false, cond, _&&_, and-true, true≢false}
 use mathlib.Core.List.{List, [], _∷_, _++_, map, List·Memᴰ, List·Memᴰ·head, List·Memᴰ·tail, Memᴰ·cast, Memᴰ·map, Memᴰ·append-left, Memᴰ·append-right}
 use Prim.Native.Nat.{ℕ, _<_, _≤_}
 use native.Mathlib.Omega.{arith}
 use lib.ListN.{length}
 use lib.Dec.{ltb}
 use borrow.Author.Tests.{eqb-true, lt-ltb, ltb-true}
-use Rattle.answer.specs.declared.Answer.the-variants.{Done}
 use Rattle.answer.specs.First.{first-append, first-end}
 use Rattle.sequence.specs.Lists.{upTo, and-split as both}
 use Rattle.sequence.specs.Wrap.{numberAt}
@@ -21,7 +20,7 @@ use Rattle.window.specs.Group.{position, group, inside, isMissing}
 use Rattle.window.specs.Order.{inUse}
 use Rattle.calls.specs.Content.{xorContents, contentAt, recoveryAt}
 use Rattle.calls.specs.State.{recount}
-use Rattle.calls.specs.Call.{Outcome, standingTests, asked, opened}
+use Rattle.calls.specs.Call.{Outcome, standingTests, asked, cleared, opened}
 use Rattle.calls.specs.Standing.{standing-good}
 use Rattle.peel.specs.Peel as Theory
 use Rattle.peel.specs.Rest.{Still}
@@ -32,9 +31,9 @@ use Rattle.guarantee.specs.View.{Limits, groupOf, group-lt, code, checkA
 use Rattle.guarantee.specs.Recount.{fills-on, holds-on, unaltered-on}
 use Rattle.guarantee.specs.Order.{Ordered, limits, set-up-passes, standing, stands}
 use Rattle.guarantee.specs.Accepted.{rests}
-use Rattle.guarantee.specs.Fine.{Opened, Fine, Goes, fine-media, fine-parity}
-use Rattle.guarantee.specs.Demand3.{Port, mediaPort, columnPort, rowPort, Offer, callOf, offered, run, Stretch, Fills, UnalteredOn, Unaltered, Name, mediaName, parityName, nameOn, nameOf, namesOf, Received, distinctGroups, Given, markAt, Hidden, Demand3, Claim, SamePackets, ClaimSame}
-use Rattle.guarantee.specs.Start.{Holds, Start, mediaHeld, parityHeld, receivedFrom, GivenFrom, ClaimFrom, ClaimSameFrom, ClaimChain}
+use Rattle.guarantee.specs.Fine.{Opened, Fine, Goes, fine-media, fine-parity, refused-parity}
+use Rattle.guarantee.specs.Demand3.{Port, mediaPort, columnPort, rowPort, Offer, callOf, offered, run, Stretch, Fills, UnalteredOn, Unaltered, Name, mediaName, parityName, nameOn, nameOf, namesOf, Received, groupNamed, distinctGroups, Given, markAt, Hidden, Demand3, Claim, SamePackets, ClaimSame}
+use Rattle.guarantee.specs.Start.{Holds, Start, mediaHeld, parityHeld, heldAnd, every, counts, counted, receivedFrom, GivenFrom, ClaimFrom, ClaimSameFrom, ClaimChain}
 use Rattle.guarantee.specs.Sent.{sent, seenOn, seen, media-read, parity-read, position-number, recovery-size, recovery-sum}
 use Rattle.guarantee.specs.Names.{distinct-has, Got, got-unaltered, media-in, check-in, in-media, in-check}
 use Rattle.guarantee.specs.Opening.{opening, opened-start, none-held}
@@ -56,16 +55,37 @@ module _ {w : Window} (O : Opened w) {t : Stretch} (F : Fills w t) where
     fine-offer columnPort g u key f = let r = parity-read L F column (omega arith) g u in fine-parity O enough column (omega arith) g (r .faultless) (r .within) (key column (snbase g) refl) f
     fine-offer rowPort g u key f = let r = parity-read L F row (omega arith) g u in fine-parity O enough row (omega arith) g (r .faultless) (r .within) (key row (snbase g) refl) f
 
+    -- one that does not count is refused, and leaves all as it was
+    outside-refused : (p : Port) (g : List ℕ) → every (λ k. inside w (k .0) (k .1)) (groupNamed (nameOn p g)) ≡ false → {v : Window} {s : Store} → Fine w D v s → Goes w D [] s (callOf p v g s)
+    outside-refused mediaPort g e f = absurd (true≢false e)
+    outside-refused columnPort g e f = refused-parity column g (rw and-true at e) f
+    outside-refused rowPort g e f = refused-parity row g (rw and-true at e) f
+
     -- and so does a list of them
-    fine-run : (offers : List Offer) → ((o : Offer) → List·Memᴰ o offers → Unaltered w t o)
-        → ((o : Offer) → List·Memᴰ o offers → (stream snbase : ℕ) → nameOf o ≡ parityName stream snbase → List·Memᴰ (stream, snbase) D)
-        → (x : Outcome) → Fine w D (x .window) (x .store) → Goes w D (map (seen w) offers) (x .store) (run x offers)
+    fine-run : (offers : List Offer) → ((o : Offer) → List·Memᴰ o (counted w offers) → Unaltered w t o)
+        → ((o : Offer) → List·Memᴰ o (counted w offers) → (stream snbase : ℕ) → nameOf o ≡ parityName stream snbase → List·Memᴰ (stream, snbase) D)
+        → (x : Outcome) → Fine w D (x .window) (x .store) → Goes w D (map (seen w) (counted w offers)) (x .store) (run x offers)
     unfolding run
     fine-run [] ok key x f = record { fine = f; runs = Theory.done }
-    fine-run (o ∷ offers) ok key x f =
-        let a = fine-offer (o .port) (o .datagram) (ok o (List·Memᴰ·head refl)) (key o (List·Memᴰ·head refl)) f in
-        let b = fine-run offers (λ p m. ok p (List·Memᴰ·tail m)) (λ p m. key p (List·Memᴰ·tail m)) (offered o (x .window) (x .store)) (a .fine) in
-        record { fine = b .fine; runs = Theory.runs-then (code w) (a .runs) (b .runs) }
+    fine-run (o ∷ offers) ok key x f = go (counts w o) refl ok key (fine-run offers)
+      where
+        next : Outcome
+        next = offered o (x .window) (x .store)
+
+        go : (b : Bool) → counts w o ≡ b → ((p : Offer) → List·Memᴰ p (cond b (o ∷ counted w offers) (counted w offers)) → Unaltered w t p)
+            → ((p : Offer) → List·Memᴰ p (cond b (o ∷ counted w offers) (counted w offers)) → (stream snbase : ℕ) → nameOf p ≡ parityName stream snbase → List·Memᴰ (stream, snbase) D)
+            → (((p : Offer) → List·Memᴰ p (counted w offers) → Unaltered w t p)
+            → ((p : Offer) → List·Memᴰ p (counted w offers) → (stream snbase : ℕ) → nameOf p ≡ parityName stream snbase → List·Memᴰ (stream, snbase) D)
+            → (y : Outcome) → Fine w D (y .window) (y .store) → Goes w D (map (seen w) (counted w offers)) (y .store) (run y offers))
+            → Goes w D (map (seen w) (cond b (o ∷ counted w offers) (counted w offers))) (x .store) (run next offers)
+        go true e ok key rest =
+            let a = fine-offer (o .port) (o .datagram) (ok o (List·Memᴰ·head refl)) (key o (List·Memᴰ·head refl)) f in
+            let b = rest (λ p m. ok p (List·Memᴰ·tail m)) (λ p m. key p (List·Memᴰ·tail m)) next (a .fine) in
+            record { fine = b .fine; runs = Theory.runs-then (code w) (a .runs) (b .runs) }
+        go false e ok key rest =
+            let a = outside-refused (o .port) (o .datagram) e f in
+            let b = rest ok key next (a .fine) in
+            record { fine = b .fine; runs = Theory.runs-then (code w) (a .runs) (b .runs) }
 
   -- ---- what holds after it
 
@@ -80,7 +100,7 @@ module _ {w : Window} (O : Opened w) {t : Stretch} (F : Fills w t) where
     still = rests (arrived .fine .order .good) (arrived .fine .order .waits)
 
     -- what is missing is hidden
-    missing-hidden : Hidden w (receivedFrom w s offers) (λ i. ltb i (w .n) && Theory.miss (view w (y .store)) i)
+    missing-hidden : Hidden w (heldAnd w s offers) (λ i. ltb i (w .n) && Theory.miss (view w (y .store)) i)
     missing-hidden = record {
       of-stretch = λ i e. ltb-true i (w .n) (both (ltb i (w .n)) (Theory.miss (view w (y .store)) i) e .0);
       unreceived = λ i e m. let b = both (ltb i (w .n)) (Theory.miss (view w (y .store)) i) e in
@@ -100,7 +120,7 @@ module _ {w : Window} (O : Opened w) {t : Stretch} (F : Fills w t) where
         inner stream snbase h i m = rw (lt-ltb i (w .n) (group-lt w stream snbase h i m))
 
     -- what is hidden is a stopping set of the theory
-    hidden-stopping : (S : ℕ → Bool) → Hidden w (receivedFrom w s offers) S → Theory.Stopping (code w) (Got w s offers) S
+    hidden-stopping : (S : ℕ → Bool) → Hidden w (heldAnd w s offers) S → Theory.Stopping (code w) (Got w s offers) S
     hidden-stopping S h = record {
       unreceived = λ i x m. outside i (λ e. h .unreceived i e (media-in L F (start .good) ok i x m .1));
       never-one = λ k x m e. h .never-one (k .0) (k .1) (check-in L F (start .good) ok k x m .1) (sym (count-keep S (groupOf w k)) ∙ e);
@@ -121,7 +141,7 @@ module _ {w : Window} (O : Opened w) {t : Stretch} (F : Fills w t) where
         (right (code w) (sent t) (inv .sound) (got-unaltered L F (start .good) ok H) i (packetAt w (y .store) i) (slot-present w (y .store) i h n))
 
     -- demand 3
-    conclusions : Demand3 w t (receivedFrom w s offers) (y .store)
+    conclusions : Demand3 w t (heldAnd w s offers) (y .store)
     conclusions = record {
       mark = λ i h. ⊎-elim (λ e. inl (eqb-true (markAt (y .store) i) 0 e)) (λ e. inr (mark-one (arrived .fine .order .good) i h e)) (decide (isMissing (y .store .marks) i));
       present = present-sent;
@@ -162,7 +182,7 @@ record Ready (w : Window) (a u : ℕ) (s : Store) (t : Stretch) (offers : List O
   pub fills : Fills w t
   pub ordered : Ordered w a u s
   pub holds : Holds w t s
-  pub unaltered : (o : Offer) → List·Memᴰ o offers → Unaltered w t o
+  pub unaltered : (o : Offer) → List·Memᴰ o (counted w offers) → Unaltered w t o
   pub few-groups : length (distinctGroups (receivedFrom w s offers)) ≤ room w
 
 -- that is what is given
@@ -182,7 +202,7 @@ ready-at w a u x {t} {offers} e G =
 
 -- the list is a run from there
 arrives : {w : Window} {a u : ℕ} {t : Stretch} {offers : List Offer} (x : Outcome) → x .window ≡ recount w a u → Ready w a u (x .store) t offers
-    → Goes w (distinctGroups (receivedFrom w (x .store) offers)) (map (seen w) offers) (x .store) (run x offers)
+    → Goes w (distinctGroups (receivedFrom w (x .store) offers)) (map (seen w) (counted w offers)) (x .store) (run x offers)
 arrives {w} {a} {u} {offers = offers} x e R = fine-run (R .within) (R .fills) (R .few-groups) offers (R .unaltered)
     (λ o m a b e. distinct-has received a b (Memᴰ·append-right (mediaHeld w (x .store) ++ parityHeld w (x .store)) (Memᴰ·cast (sym e) (Memᴰ·map nameOf m)))) x
     (record {
@@ -190,7 +210,7 @@ arrives {w} {a} {u} {offers = offers} x e R = fine-run (R .within) (R .fills) (R
       used = u;
       window = e;
       order = R .ordered;
-      keyed = λ r h e. distinct-has received (recordAt (x .store) r .stream) (recordAt (x .store) r .snbase) (Memᴰ·append-left (namesOf offers) (Memᴰ·append-right (mediaHeld w (x .store))
+      keyed = λ r h e. distinct-has received (recordAt (x .store) r .stream) (recordAt (x .store) r .snbase) (Memᴰ·append-left (namesOf (counted w offers)) (Memᴰ·append-right (mediaHeld w (x .store))
           (Memᴰ·map (λ r. parityName (recordAt (x .store) r .stream) (recordAt (x .store) r .snbase)) (keep-mem (inUse w (x .store)) (upTo (rows w)) r e (upTo-mem (rows w) r h)))));
     })
   where
@@ -220,7 +240,7 @@ demand3-chain x t offers more G ok few =
     let a = demand3-from x t offers G in
     rw (run-append x offers more) (demand3-from (run x offers) t more (record {
       start = a .start;
-      unaltered = λ o m. subst (λ v. Unaltered v t o) (sym (a .set-up)) (unaltered-on (x .window) (run x offers .window .present) (run x offers .window .«in_use») t o (ok o m));
+      unaltered = λ o m. subst (λ v. (o : Offer) → List·Memᴰ o (counted v more) → Unaltered v t o) (sym (a .set-up)) (λ o m. unaltered-on (x .window) (run x offers .window .present) (run x offers .window .«in_use») t o (ok o m)) o m;
       few-groups = subst (λ v. length (distinctGroups (receivedFrom v (run x offers .store) more)) ≤ room v) (sym (a .set-up)) few;
     }))
 
@@ -229,7 +249,7 @@ demand3-chain x t offers more G ok few =
 -- a packet of one list is in the other, whatever it carries there
 covered : {w : Window} (L : Limits w) {t u : Stretch} (F : Fills w t) (E : Fills w u) {a b c d : ℕ} {s r : Store} (G : Good w a b s) (H : Good w c d r) {offers others : List Offer}
     (ok : (o : Offer) → List·Memᴰ o offers → Unaltered w t o) (ko : (o : Offer) → List·Memᴰ o others → Unaltered w u o)
-    → ((x : Name) → Received (receivedFrom w s offers) x → Received (receivedFrom w r others) x) → Theory.Covered (Got w s offers) (Got w r others)
+    → ((x : Name) → Received (heldAnd w s offers) x → Received (heldAnd w r others) x) → Theory.Covered (Got w s offers) (Got w r others)
 covered {w} L F E G H ok ko sub = record {
   of-media = λ i x m. let z = media-in L F G ok i x m in in-media L E H ko i (z .0) (sub _ (z .1));
   of-check = λ k c m. in-check L E H ko (k .0) (k .1) (sub _ (check-in L F G ok k c m .1));
@@ -249,10 +269,10 @@ demand3-same-from x y t u offers others G H e names i h = go (conclusions (R .wi
     Q : Ready w (y .window .present) (y .window .«in_use») (y .store) u others
     Q = ready-at w (y .window .present) (y .window .«in_use») y e H
 
-    A : Goes w (distinctGroups (receivedFrom w (x .store) offers)) (map (seen w) offers) (x .store) (run x offers)
+    A : Goes w (distinctGroups (receivedFrom w (x .store) offers)) (map (seen w) (counted w offers)) (x .store) (run x offers)
     A = arrives x refl R
 
-    B : Goes w (distinctGroups (receivedFrom w (y .store) others)) (map (seen w) others) (y .store) (run y others)
+    B : Goes w (distinctGroups (receivedFrom w (y .store) others)) (map (seen w) (counted w others)) (y .store) (run y others)
     B = arrives y e Q
 
     L′ : Limits w
@@ -278,15 +298,31 @@ demand3-same-from x y t u offers others G H e names i h = go (conclusions (R .wi
 
 -- ---- from an opening
 
--- what demand 3 gives is such a start
-given-from : {w : Window} {lent : Store} {t : Stretch} {offers : List Offer} → w .present ≡ 0 → w .«in_use» ≡ 0 → Given w lent t offers → GivenFrom (opened w lent) t offers
-given-from {w} {lent} {t} {offers} a u G =
-    let e = opening w lent (G .fresh) in
-    rw (e .1) (record {
-      start = opened-start w lent t (G .base-fits) (G .fills) (e .0) a u;
-      unaltered = G .unaltered;
-      few-groups = rw (none-held w lent offers) (G .few-groups);
-    })
+-- an unaltered packet counts
+unaltered-counts : {w : Window} → Limits w → {t : Stretch} → Fills w t → (p : Port) (g : List ℕ) → UnalteredOn w t p g → every (λ k. inside w (k .0) (k .1)) (groupNamed (nameOn p g)) ≡ true
+unaltered-counts L F mediaPort g u = refl
+unaltered-counts L F columnPort g u = rw (parity-read L F column (omega arith) g u .within)
+unaltered-counts L F rowPort g u = rw (parity-read L F row (omega arith) g u .within)
+
+-- so all of a list of them does
+all-count : {w : Window} → Limits w → {t : Stretch} → Fills w t → (offers : List Offer) → ((o : Offer) → List·Memᴰ o offers → Unaltered w t o) → counted w offers ≡ offers
+all-count L F [] ok = refl
+all-count L F (o ∷ offers) ok = rw (unaltered-counts L F (o .port) (o .datagram) (ok o (List·Memᴰ·head refl))) (ap (λ l. o ∷ l) (all-count L F offers (λ p m. ok p (List·Memᴰ·tail m))))
+
+module _ {w : Window} {lent : Store} {t : Stretch} {offers : List Offer} (a : w .present ≡ 0) (u : w .«in_use» ≡ 0) (G : Given w lent t offers) where
+  -- what is received is what is in the list
+  received-list : receivedFrom w (cleared w lent) offers ≡ namesOf offers
+  received-list = none-held w lent offers ∙ ap namesOf (all-count (limits w (G .base-fits) (opening w lent (G .fresh) .0)) (G .fills) offers (G .unaltered))
+
+  -- what demand 3 gives is such a start
+  given-from : GivenFrom (opened w lent) t offers
+  given-from =
+      let e = opening w lent (G .fresh) in
+      rw (e .1) (record {
+        start = opened-start w lent t (G .base-fits) (G .fills) (e .0) a u;
+        unaltered = rw (all-count (limits w (G .base-fits) (e .0)) (G .fills) offers (G .unaltered)) (G .unaltered);
+        few-groups = rw received-list (G .few-groups);
+      })
 
 -- demand 3
 pub demand3 : Claim
@@ -295,7 +331,7 @@ demand3 base ssrc l d p n k lent t offers G =
     let e = opening w lent (G .fresh) in
     let z : Demand3 (opened w lent .window) t (receivedFrom (opened w lent .window) (opened w lent .store) offers) (run (opened w lent) offers .store) =
     demand3-from (opened w lent) t offers (given-from refl refl G) .demand in
-    rw (← none-held w lent offers) (subst (λ x. Demand3 (x .window) t (receivedFrom (x .window) (x .store) offers) (run (opened w lent) offers .store)) (e .1) z)
+    rw (← received-list refl refl G) (subst (λ x. Demand3 (x .window) t (receivedFrom (x .window) (x .store) offers) (run (opened w lent) offers .store)) (e .1) z)
 
 -- demand 3, of two lists
 pub demand3-same : ClaimSame
@@ -303,10 +339,10 @@ demand3-same base ssrc l d p n k lent other t u offers others G H names i h =
     let w : Window = asked base ssrc l d p n k in
     let e = opening w lent (G .fresh) in
     let f = opening w other (H .fresh) in
-    let held : (r : Store) (os : List Offer) → opened w r .answer ≡ Done 0 → receivedFrom (opened w r .window) (opened w r .store) os ≡ namesOf os =
-    λ r os q. ap (λ x. receivedFrom (x .window) (x .store) os) (opening w r q .1) ∙ none-held w r os in
+    let a : receivedFrom (opened w lent .window) (opened w lent .store) offers ≡ namesOf offers = ap (λ x. receivedFrom (x .window) (x .store) offers) (e .1) ∙ received-list refl refl G in
+    let b : receivedFrom (opened w other .window) (opened w other .store) others ≡ namesOf others = ap (λ x. receivedFrom (x .window) (x .store) others) (f .1) ∙ received-list refl refl H in
     demand3-same-from (opened w lent) (opened w other) t u offers others (given-from refl refl G) (given-from refl refl H) (rw (e .1, f .1))
-    (rw (held lent offers (G .fresh), held other others (H .fresh)) names) i (rw (e .1) h)
+    (rw (a, b) names) i (rw (e .1) h)
 
 -- so a media packet that was received is present
 pub received-present : {w : Window} {t : Stretch} {received : List Name} {s : Store} → Demand3 w t received s
