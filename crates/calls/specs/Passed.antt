@@ -1,13 +1,13 @@
 -- What is known where no refusal of a call applied, by name: one record a call. A refusal more is a field more, and moves no other.
-use mathlib.Core.Path.{_≡_}
-use mathlib.Core.Bool.{Bool, true, false, not, _&&_, _||_, false≢true}
-use mathlib.Core.List.{List, _++_}
+use mathlib.Core.Path.{_≡_, sym, ap, _∙_}
+use mathlib.Core.Bool.{Bool, true, false, not, _&&_, _||_, and-false, false≢true}
+use mathlib.Core.List.{List, [], _∷_, _++_}
 use Prim.Native.Nat.{ℕ, _+_, _-_, _<_, _≤_}
 use lib.ListN.{length, drop, length-drop}
 use lib.Dec.{eqb, leb, ltb}
-use borrow.Author.Tests.{eqb-true, ltb-true, le-leb, not-false}
-use Rattle.answer.specs.First.{first, first-none, first-front, first-back}
-use Rattle.sequence.specs.Lists.{upTo, any, or-split}
+use borrow.Author.Tests.{eqb-true, ltb-true, lt-ltb, le-leb, not-false}
+use Rattle.answer.specs.First.{first, None, first-past, first-end, first-append, first-none, first-front, first-back}
+use Rattle.sequence.specs.Lists.{upTo, any, any-false, false-any, or-split}
 use Rattle.rtp.specs.Rtp.{rtpHeaderSize, sequenceNumber}
 use Rattle.rtp.specs.Fec.{parityHeaderSize, snbase, dBit, offset, na, offsetOf, naOf}
 use Rattle.rtp.specs.Faults.{noRow, mediaTests, parityTests}
@@ -15,7 +15,7 @@ use Rattle.window.specs.declared.Window.{Window}
 use Rattle.window.specs.Limits.{leastMissing, rows, room}
 use Rattle.window.specs.Store.{Store}
 use Rattle.window.specs.Group.{position, group, inside, isMissing, missing}
-use Rattle.calls.specs.Call.{standingTests, mediaPlaceTests, mediaOfferTests, holds, parityPlaceTests, parityOfferTests, readPlaceTests, readTests, writePlaceTests, writeTests}
+use Rattle.calls.specs.Call.{standingTests, mediaPlaceTests, mediaOfferTests, holds, holdsSame, parityPlaceTests, parityOfferTests, readPlaceTests, readTests, writePlaceTests, writeTests}
 use Rattle.calls.specs.Standing.{Standing, standing-good}
 
 -- no refusal of a media offer applied
@@ -48,6 +48,16 @@ pub record WritePassed (w : Window) (stream snbase : ℕ) (s : Store) (out : Lis
   pub whole : any (isMissing (s .marks)) (group w stream snbase) ≡ false
 
 -- ---- from "the first refusal is 0" to the records
+
+-- no test of two lists applies, where none of each does
+none-join : (ts us : List (ℕ × Bool)) → None ts → None us → None (ts ++ us)
+none-join [] us m n = n
+none-join ((k, t) ∷ ts) us m n = (m .0, none-join ts us (m .1) n)
+
+-- where none applies, the first is 0
+pub none-first : (ts : List (ℕ × Bool)) → None ts → first ts ≡ 0
+none-first [] n = sym first-end
+none-first ((k, t) ∷ ts) n = sym (first-past 0 k t ts (n .0) (sym (none-first ts (n .1))))
 
 -- a payload part of p bytes
 payload-size : (headers p : ℕ) (g : List ℕ) → ltb (length g) headers ≡ false → not (eqb (length g - headers) p) ≡ false → length (drop headers g) ≡ p
@@ -109,3 +119,23 @@ write-passed w stream b s out e =
       in-window = not-false (inside w stream b) (place .1 .0);
       whole = place .1 .1 .0;
     }
+
+-- ---- and back: a faultless datagram on a window and store that refusals 1 to 5 let pass
+
+module _ (w : Window) (g : List ℕ) (s : Store) (stands : None (standingTests w s 0 0)) where
+  -- no refusal applies to media of a position of the window that is missing
+  pub media-passes : None (mediaTests (w .p) g) → position w (sequenceNumber g) < w .n → isMissing (s .marks) (position w (sequenceNumber g)) ≡ true → first (mediaOfferTests w g s) ≡ 0
+  media-passes faultless in-window new =
+      first-append (standingTests w s 0 0 ++ mediaTests (w .p) g) (mediaPlaceTests w g s) (none-join (standingTests w s 0 0) (mediaTests (w .p) g) stands faultless)
+      ∙ none-first (mediaPlaceTests w g s) (rw (lt-ltb (position w (sequenceNumber g)) (w .n) in-window), (rw new, (ap not new, tt)))
+
+  -- none applies to parity of a group of the window that is not in hand, if there is room where it has to wait
+  pub parity-passes : (stream : ℕ) → None (parityTests stream (w .l) (w .d) (w .p) g) → inside w stream (snbase g) ≡ true → any (holds w s stream (snbase g)) (upTo (rows w)) ≡ false
+      → w .«in_use» < room w → first (parityOfferTests w stream g s) ≡ 0
+  parity-passes stream faultless in-window new has-room =
+      first-append (standingTests w s 0 0 ++ parityTests stream (w .l) (w .d) (w .p) g) (parityPlaceTests w stream g s)
+      (none-join (standingTests w s 0 0) (parityTests stream (w .l) (w .d) (w .p) g) stands faultless)
+      ∙ none-first (parityPlaceTests w stream g s) (ap not in-window, (unlike, (new, (rw (lt-ltb (w .«in_use») (room w) has-room) (and-false (leb leastMissing (length (missing (s .marks) (group w stream (snbase g)))))), tt))))
+    where
+      unlike : any (holdsSame w s stream g) (upTo (rows w)) ≡ false
+      unlike = false-any (holdsSame w s stream g) (rows w) (λ r l. rw (any-false (holds w s stream (snbase g)) (rows w) new r l))

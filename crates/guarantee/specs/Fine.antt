@@ -1,37 +1,36 @@
 -- The invariant of a run: the store is in order, and the groups of its parity in hand are among those that there is room for. Every
 -- faultless offer keeps it, and is a run of the theory.
-use mathlib.Core.Path.{_≡_, refl, sym, ap, _∙_, subst}
+use mathlib.Core.Path.{_≡_, refl, sym, _∙_, subst}
 use mathlib.Core.Logic.{_⊎_, inl, inr, ⊎-elim}
-use mathlib.Core.Bool.{Bool, true, false, not, _&&_, and-false, true≢false}
-use mathlib.Core.List.{List, [], _∷_, _++_, List·Memᴰ, List·Memᴰ·eq-of-singleton, Memᴰ·cast}
+use mathlib.Core.Bool.{Bool, true, false, _&&_, true≢false}
+use mathlib.Core.List.{List, [], _∷_, List·Memᴰ, List·Memᴰ·eq-of-singleton, Memᴰ·cast}
 use Prim.Native.Nat.{ℕ, _^_, _<_, _≤_}
 use native.Mathlib.Omega.{arith}
 use lib.ListN.{length}
-use lib.Dec.{eqb, leb, ltb}
-use borrow.Author.Tests.{eqb-true, lt-ltb}
-use Rattle.answer.specs.First.{first, None, first-append}
-use Rattle.sequence.specs.Lists.{upTo, any, any-false, false-any}
+use lib.Dec.{eqb}
+use borrow.Author.Tests.{eqb-true}
+use Rattle.answer.specs.First.{None}
+use Rattle.sequence.specs.Lists.{upTo, any, any-false}
 use Rattle.sequence.specs.Lists.{and-split as both}
 use Rattle.rtp.specs.Rtp.{sequenceNumber}
 use Rattle.rtp.specs.Fec.{snbase}
 use Rattle.rtp.specs.Faults.{mediaTests, parityTests}
 use Rattle.window.specs.declared.Window.{Window}
-use Rattle.window.specs.Limits.{width, leastMissing, rows, room, setUpTests}
+use Rattle.window.specs.Limits.{width, rows, room, setUpTests}
 use Rattle.window.specs.Store.{Store, recordAt}
-use Rattle.window.specs.Group.{position, group, inside, isMissing, missing}
+use Rattle.window.specs.Group.{position, inside, isMissing}
 use Rattle.window.specs.Order.{inUse}
-use Rattle.calls.specs.Content.{Content, sameContent, contentAt, recoveryAt}
+use Rattle.calls.specs.Content.{Content, recoveryAt}
 use Rattle.calls.specs.State.{recount}
-use Rattle.calls.specs.Accept.{contentOf}
-use Rattle.calls.specs.Call.{Outcome, standingTests, mediaPlaceTests, mediaOfferTests, holds, holdsSame, parityPlaceTests, parityOfferTests, offeredMedia, offeredParity}
-use Rattle.calls.specs.Passed.{parity-passed}
+use Rattle.calls.specs.Call.{Outcome, holds, offeredMedia, offeredParity}
+use Rattle.calls.specs.Passed.{media-passed, parity-passed, media-passes, parity-passes}
 use Rattle.peel.specs.Peel.{Offer, check, Here, pass, Runs, done, took, sound-has, sound-runs}
 use Rattle.guarantee.specs.Ranges.{decide, any-some, upTo-lt, Out, take-out, pigeon}
 use Rattle.guarantee.specs.Packets.{Packet}
 use Rattle.guarantee.specs.View.{code, checkAt, Held, view, miss-mark}
 use Rattle.guarantee.specs.Order.{Ordered, stands}
 use Rattle.guarantee.specs.Accepted.{Settled}
-use Rattle.guarantee.specs.Offers.{mediaSeen, paritySeen, none-join, is-holder, media-kept, parity-kept, media-accepted, parity-accepted}
+use Rattle.guarantee.specs.Offers.{mediaSeen, paritySeen, is-holder, media-kept, parity-kept, media-accepted, parity-accepted}
 
 -- a window value that refusals 1 to 3 let pass
 pub record Opened (w : Window) : Type 0 where
@@ -50,30 +49,6 @@ pub record Fine (w : Window) (D : List (ℕ × ℕ)) (v : Window) (s : Store) : 
 pub record Goes (w : Window) (D : List (ℕ × ℕ)) (os : List (Offer (ℕ × ℕ) Content Packet)) (s : Store) (x : Outcome) : Type 1 where
   pub fine : Fine w D (x .window) (x .store)
   pub runs : Runs (code w) (view w s) os (view w (x .store))
-
--- ---- which test applies
-
--- media: none where the position is missing, 14 or 15 where it is present
-media-free : (out there alike : Bool) → out ≡ false → there ≡ false → first ((13, out) ∷ (14, there && alike) ∷ (15, there) ∷ []) ≡ 0
-unfolding first
-media-free out there alike e h = rw (e, h)
-
--- a position that is present
-media-taken : (out there alike : Bool) → out ≡ false → there ≡ true → first ((13, out) ∷ (14, there && alike) ∷ (15, there) ∷ []) ≡ 0 → ⊥
-unfolding first
-media-taken out there true e h z = absurd (let y : 14 ≡ 0 = rw (e, h) at z in omega arith)
-media-taken out there false e h z = absurd (let y : 15 ≡ 0 = rw (e, h) at z in omega arith)
-
--- parity: none where its group is not in hand and there is room, 14 or 15 where it is in hand
-parity-free : (out alike held full : Bool) → out ≡ false → alike ≡ false → held ≡ false → full ≡ false → first ((13, out) ∷ (14, alike) ∷ (15, held) ∷ (16, full) ∷ []) ≡ 0
-unfolding first
-parity-free out alike held full e f g h = rw (e, f, g, h)
-
--- a group that is in hand
-parity-taken : (out alike held full : Bool) → out ≡ false → held ≡ true → first ((13, out) ∷ (14, alike) ∷ (15, held) ∷ (16, full) ∷ []) ≡ 0 → ⊥
-unfolding first
-parity-taken out true held full e h z = absurd (let y : 14 ≡ 0 = rw e at z in omega arith)
-parity-taken out false held full e h z = absurd (let y : 15 ≡ 0 = rw (e, h) at z in omega arith)
 
 module _ {D : List (ℕ × ℕ)} (p : Offer (ℕ × ℕ) Content Packet) (key : (k : ℕ × ℕ) (c : Content) → p ≡ check k c → List·Memᴰ k D) where
   -- an offer that tells nothing new is passed over
@@ -111,21 +86,9 @@ module _ {w : Window} (O : Opened w) {D : List (ℕ × ℕ)} (enough : length D 
       key : (k : ℕ × ℕ) (c : Content) → mediaSeen w g ≡ check k c → List·Memᴰ k D
       key k c e = absurd (let z : _≡_ {A = ℕ} 0 1 = cc in omega arith)
 
-      tests : first (mediaOfferTests x g s) ≡ first (mediaPlaceTests x g s)
-      tests = first-append (standingTests x s 0 0 ++ mediaTests (w .p) g) (mediaPlaceTests x g s)
-          (none-join (standingTests x s 0 0) (mediaTests (w .p) g) (stands w (f .present) (f .used) s (O .faultless) (f .order)) faultless)
-
-      out : not (ltb i (w .n)) ≡ false
-      out = rw (lt-ltb i (w .n) h)
-
-      alike : Bool
-      alike = sameContent (contentAt w s i) (contentOf g)
-
       go : (isMissing (s .marks) i ≡ true) ⊎ (isMissing (s .marks) i ≡ false) → Goes w D (mediaSeen w g ∷ []) s (offeredMedia x g s)
-      go (inl e) = accepted (mediaSeen w g) key f
-          (media-accepted w (O .based) (f .present) (f .used) s g (tests ∙ media-free (not (ltb i (w .n))) (not (isMissing (s .marks) i)) alike out (ap not e)))
-      go (inr e) = rw (media-kept x g s (λ z. media-taken (not (ltb i (w .n))) (not (isMissing (s .marks) i)) alike out (ap not e) (sym tests ∙ z)))
-          (passed (mediaSeen w g) key (refresh f) refl (miss-mark w s i h ∙ e))
+      go (inl e) = accepted (mediaSeen w g) key f (media-accepted w (O .based) (f .present) (f .used) s g (media-passes x g s (stands w (f .present) (f .used) s (O .faultless) (f .order)) faultless h e))
+      go (inr e) = rw (media-kept x g s (λ z. true≢false (sym (media-passed x g s z .new) ∙ e))) (passed (mediaSeen w g) key (refresh f) refl (miss-mark w s i h ∙ e))
 
   -- a parity datagram without a fault, of a group of the window that is in D: there is room for it
   pub fine-parity : {v : Window} {s : Store} (stream : ℕ) → stream ≤ 1 → (g : List ℕ) → None (parityTests stream (w .l) (w .d) (w .p) g) → inside w stream (snbase g) ≡ true
@@ -141,16 +104,6 @@ module _ {w : Window} (O : Opened w) {D : List (ℕ × ℕ)} (enough : length D 
       key : (k : ℕ × ℕ) (c : Content) → paritySeen stream g ≡ check k c → List·Memᴰ k D
       key k c e = let z : k ≡ (stream, snbase g) = cc in Memᴰ·cast z m
 
-      tests : first (parityOfferTests x stream g s) ≡ first (parityPlaceTests x stream g s)
-      tests = first-append (standingTests x s 0 0 ++ parityTests stream (w .l) (w .d) (w .p) g) (parityPlaceTests x stream g s)
-          (none-join (standingTests x s 0 0) (parityTests stream (w .l) (w .d) (w .p) g) (stands w (f .present) (f .used) s (O .faultless) (f .order)) faultless)
-
-      alike : Bool
-      alike = any (holdsSame x s stream g) (upTo (rows w))
-
-      full : Bool
-      full = leb leastMissing (length (missing (s .marks) (group w stream (snbase g)))) && not (ltb (f .used) (room w))
-
       -- not in hand: there is room
       free : any in-hand (upTo (rows w)) ≡ false → f .used < room w
       free e =
@@ -159,9 +112,6 @@ module _ {w : Window} (O : Opened w) {D : List (ℕ × ℕ)} (enough : length D 
           (λ r l i. o .others (checkAt s r) (λ q. true≢false (sym (is-holder w s (stream, snbase g) r i q) ∙ any-false in-hand (rows w) e r l)) (f .keyed r l i))
           (f .order .good .apart) in
           omega (arith, f .order .good .in-use, o .shorter)
-
-      unlike : any in-hand (upTo (rows w)) ≡ false → any (holdsSame x s stream g) (upTo (rows w)) ≡ false
-      unlike e = false-any (holdsSame x s stream g) (rows w) (λ r l. rw (any-false in-hand (rows w) e r l))
 
       -- in hand: the record that holds it
       holder : any in-hand (upTo (rows w)) ≡ true → (c : Content) × Held w s (stream, snbase g) c
@@ -175,11 +125,9 @@ module _ {w : Window} (O : Opened w) {D : List (ℕ × ℕ)} (enough : length D 
           (recoveryAt w s (r .0), record { at = r .0; below = upTo-lt (rows w) (r .0) (r .1); used = b .0; names = λ j. (d j, e j); carries = refl })
 
       go : (any in-hand (upTo (rows w)) ≡ true) ⊎ (any in-hand (upTo (rows w)) ≡ false) → Goes w D (paritySeen stream g ∷ []) s (offeredParity stream x g s)
-      go (inl e) = rw (parity-kept stream x g s (λ z. parity-taken (not (inside w stream (snbase g))) alike (any in-hand (upTo (rows w))) full (ap not h) e (sym tests ∙ z)))
-          (passed (paritySeen stream g) key (refresh f) refl (inl (holder e)))
+      go (inl e) = rw (parity-kept stream x g s (λ z. true≢false (sym e ∙ parity-passed x stream g s z .new))) (passed (paritySeen stream g) key (refresh f) refl (inl (holder e)))
       go (inr e) = accepted (paritySeen stream g) key f (parity-accepted w (O .based) (f .present) (f .used) s g stream hs
-          (tests ∙ parity-free (not (inside w stream (snbase g))) alike (any in-hand (upTo (rows w))) full (ap not h) (unlike e) e
-          (rw (lt-ltb (f .used) (room w) (free e)) (and-false (leb leastMissing (length (missing (s .marks) (group w stream (snbase g)))))))))
+          (parity-passes x g s (stands w (f .present) (f .used) s (O .faultless) (f .order)) stream faultless h e (free e)))
 
 -- a parity datagram of a group that does not lie in the window is refused
 pub refused-parity : {w : Window} {D : List (ℕ × ℕ)} {v : Window} {s : Store} (stream : ℕ) (g : List ℕ) → inside w stream (snbase g) ≡ false → Fine w D v s → Goes w D [] s (offeredParity stream v g s)

@@ -3,7 +3,7 @@ use mathlib.Core.Path.{_≡_, refl, sym, ap, ap₂, _∙_, subst}
 use mathlib.Core.Logic.{_⊎_, inl, inr}
 use mathlib.Core.Bool.{Bool, true, false, cond}
 use mathlib.Core.List.{List, [], _∷_, _++_, List·Memᴰ, List·Memᴰ·head, List·Memᴰ·tail, List·Memᴰ·eq-of-singleton}
-use Prim.Native.Nat.{ℕ, _+_, _^_, _<_}
+use Prim.Native.Nat.{ℕ, _+_, _^_, _<_, _≤_}
 use native.Mathlib.Decide.{ℕ-discrete}
 use native.Mathlib.Omega.{arith}
 use lib.ListN.{length}
@@ -22,7 +22,8 @@ use Rattle.window.specs.Group.{position, group, isMissing}
 use Rattle.calls.specs.Content.{Content, xorContent, xorContents, contentAt}
 use Rattle.calls.specs.Datagram.{mediaPacket, parityPacket}
 use Rattle.calls.specs.Accept.{contentOf, recoveryOf}
-use Rattle.calls.specs.Call.{Written, mediaOfferTests, parityOfferTests, offeredMedia, offeredParity, over, readTests, readOut, writeTests, parityOf, wroteParity}
+use Rattle.calls.specs.Call.{Outcome, Written, mediaOfferTests, parityOfferTests, offeredMedia, offeredParity, over, readTests, readOut, writeTests, parityOf, wroteParity}
+use Rattle.calls.specs.Standing.{Standing}
 use Rattle.calls.specs.Passed.{media-passed, parity-passed, read-passed, write-passed}
 use Rattle.peel.specs.Group as Peel
 use Rattle.peel.specs.Peel as Theory
@@ -30,7 +31,8 @@ use Rattle.guarantee.specs.Ranges.{any-none}
 use Rattle.guarantee.specs.Packets.{Packet, xored, zeros, packetOf, contentFrom, length-first, content-from, packet-content, packet-xor, packet-total, length-payloads, length-part}
 use Rattle.guarantee.specs.View.{code, packetAt, view, group-lt, slot-present, slot-is, Good, mark-one}
 use Rattle.guarantee.specs.Order.{standing}
-use Rattle.guarantee.specs.Offers.{media-kept, parity-kept, media-accepted, parity-accepted}
+use Rattle.guarantee.specs.Accepted.{Settled}
+use Rattle.guarantee.specs.Offers.{mediaSeen, paritySeen, media-kept, parity-kept, media-accepted, parity-accepted}
 use Rattle.guarantee.specs.Demand3.{Port, mediaPort, columnPort, rowPort, Offer, callOf, offered, markAt}
 use Rattle.guarantee.specs.Demand2.{Usable, in-hand, column-offered, row-offered, Due, stood, arrived, rebuilt, ClaimDue, ClaimStays, ClaimRead, ClaimWritten}
 use Rattle.guarantee.specs.Sent.{seenOn, seen, not-check}
@@ -38,55 +40,52 @@ use Rattle.guarantee.specs.Sent.{seenOn, seen, not-check}
 -- ---- a call as moves of the theory
 
 -- what a datagram on a port carries
-abbrev contentOn : Port → List ℕ → Content
+abbrev pub contentOn : Port → List ℕ → Content
 contentOn mediaPort g = contentOf g
 contentOn columnPort g = recoveryOf g
 contentOn rowPort g = recoveryOf g
 
--- an accepted offer: the store was in order, what was offered has P bytes, and the call took it in and made steps, and did nothing else
-pub record Moved (p : Port) (g : List ℕ) (w : Window) (s : Store) : Type 1 where
+-- an accepted offer p, which carries c, with the outcome x: the store was in order, c has P bytes, and the call took p in and made steps,
+-- and did nothing else
+pub record Moved (p : Theory.Offer (ℕ × ℕ) Content Packet) (c : Content) (w : Window) (s : Store) (x : Outcome) : Type 1 where
   pub before : Good w (w .present) (w .«in_use») s
-  pub size : length (contentOn p g .payload) ≡ w .p
-  pub runs : Theory.Runs (code w) (view w s) (seenOn w p g ∷ []) (view w (callOf p w g s .store))
+  pub size : length (c .payload) ≡ w .p
+  pub runs : Theory.Runs (code w) (view w s) (p ∷ []) (view w (x .store))
   pub present : ℕ
   pub used : ℕ
-  pub after : Good w present used (callOf p w g s .store)
+  pub after : Good w present used (x .store)
 
--- a media offer moves so, or it is refused and leaves the store as it was
-media-moves : (g : List ℕ) (w : Window) (s : Store) → w .base < 2 ^ 16 → Dec (first (mediaOfferTests w g s) ≡ 0) → (offeredMedia w g s .store ≡ s) ⊎ Moved mediaPort g w s
-media-moves g w s based (no n) = inl (ap (λ x. x .store) (media-kept w g s n))
-media-moves g w s based (yes e) =
-    let t = media-accepted w based (w .present) (w .«in_use») s g e in
-    let q = media-passed w g s e in
-    inr (record { before = standing w (w .present) (w .«in_use») s (q .standing) .good; size = q .size; runs = t .runs; present = t .present; used = t .used; after = t .order .good })
+-- what settling leaves is such a move
+moved : {p : Theory.Offer (ℕ × ℕ) Content Packet} {c : Content} {w : Window} {s : Store} {more room need : ℕ} {x : Outcome}
+    → Standing w s room need → length (c .payload) ≡ w .p → Settled w (w .present) s p more x → Moved p c w s x
+moved {w = w} {s} z size t = record { before = standing w (w .present) (w .«in_use») s z .good; size = size; runs = t .runs; present = t .present; used = t .used; after = t .order .good }
 
--- an accepted parity offer was in order and of P bytes
-parity-before : (stream : ℕ) (g : List ℕ) (w : Window) (s : Store) → first (parityOfferTests w stream g s) ≡ 0 → Good w (w .present) (w .«in_use») s × (length (recoveryOf g .payload) ≡ w .p)
-parity-before stream g w s e = let q = parity-passed w stream g s e in (standing w (w .present) (w .«in_use») s (q .standing) .good, q .size)
+module _ (g : List ℕ) (w : Window) (s : Store) (based : w .base < 2 ^ 16) where
+  -- a media offer moves so, or it is refused and leaves the store as it was
+  media-moves : (offeredMedia w g s .store ≡ s) ⊎ Moved (mediaSeen w g) (contentOf g) w s (offeredMedia w g s)
+  media-moves = go (ℕ-discrete (first (mediaOfferTests w g s)) 0)
+    where
+      go : Dec (first (mediaOfferTests w g s) ≡ 0) → (offeredMedia w g s .store ≡ s) ⊎ Moved (mediaSeen w g) (contentOf g) w s (offeredMedia w g s)
+      go (no n) = inl (ap (λ x. x .store) (media-kept w g s n))
+      go (yes e) = let q = media-passed w g s e in inr (moved (q .standing) (q .size) (media-accepted w based (w .present) (w .«in_use») s g e))
 
--- so does a call on any port
-pub moves : (p : Port) (g : List ℕ) (w : Window) (s : Store) → w .base < 2 ^ 16 → (callOf p w g s .store ≡ s) ⊎ Moved p g w s
-moves mediaPort g w s based = media-moves g w s based (ℕ-discrete (first (mediaOfferTests w g s)) 0)
-moves columnPort g w s based = go (ℕ-discrete (first (parityOfferTests w column g s)) 0)
-  where
-    go : Dec (first (parityOfferTests w column g s) ≡ 0) → (offeredParity column w g s .store ≡ s) ⊎ Moved columnPort g w s
-    go (no n) = inl (ap (λ x. x .store) (parity-kept column w g s n))
-    go (yes e) =
-        let t = parity-accepted w based (w .present) (w .«in_use») s g column (omega arith) e in
-        let b = parity-before column g w s e in
-        inr (record { before = b .0; size = b .1; runs = t .runs; present = t .present; used = t .used; after = t .order .good })
-moves rowPort g w s based = go (ℕ-discrete (first (parityOfferTests w row g s)) 0)
-  where
-    go : Dec (first (parityOfferTests w row g s) ≡ 0) → (offeredParity row w g s .store ≡ s) ⊎ Moved rowPort g w s
-    go (no n) = inl (ap (λ x. x .store) (parity-kept row w g s n))
-    go (yes e) =
-        let t = parity-accepted w based (w .present) (w .«in_use») s g row (omega arith) e in
-        let b = parity-before row g w s e in
-        inr (record { before = b .0; size = b .1; runs = t .runs; present = t .present; used = t .used; after = t .order .good })
+  -- so does a parity offer
+  parity-moves : (stream : ℕ) → stream ≤ 1 → (offeredParity stream w g s .store ≡ s) ⊎ Moved (paritySeen stream g) (recoveryOf g) w s (offeredParity stream w g s)
+  parity-moves stream hs = go (ℕ-discrete (first (parityOfferTests w stream g s)) 0)
+    where
+      go : Dec (first (parityOfferTests w stream g s) ≡ 0) → (offeredParity stream w g s .store ≡ s) ⊎ Moved (paritySeen stream g) (recoveryOf g) w s (offeredParity stream w g s)
+      go (no n) = inl (ap (λ x. x .store) (parity-kept stream w g s n))
+      go (yes e) = let q = parity-passed w stream g s e in inr (moved (q .standing) (q .size) (parity-accepted w based (w .present) (w .«in_use») s g stream hs e))
+
+  -- so does a call on any port
+  pub moves : (p : Port) → (callOf p w g s .store ≡ s) ⊎ Moved (seenOn w p g) (contentOn p g) w s (callOf p w g s)
+  moves mediaPort = media-moves
+  moves columnPort = parity-moves column (omega arith)
+  moves rowPort = parity-moves row (omega arith)
 
 -- ---- what is known is due
 
-module _ (o : Offer) (w : Window) (s : Store) (M : Moved (o .port) (o .datagram) w s) where
+module _ (o : Offer) (w : Window) (s : Store) (M : Moved (seen w o) (contentOn (o .port) (o .datagram)) w s (offered o w s)) where
   -- what the call has received
   abbrev R : Theory.Set (Theory.Offer (ℕ × ℕ) Content Packet)
   R = Theory.Plus (Theory.Has (view w s)) (seen w o ∷ [])
@@ -160,12 +159,12 @@ module _ (o : Offer) (w : Window) (s : Store) (M : Moved (o .port) (o .datagram)
 
 -- every packet that is present after an offer is due
 pub made-due : ClaimDue
-made-due o w s based i h e = go (moves (o .port) (o .datagram) w s based)
+made-due o w s based i h e = go (moves (o .datagram) w s based (o .port))
   where
     t : Store
     t = offered o w s .store
 
-    go : (t ≡ s) ⊎ Moved (o .port) (o .datagram) w s → Due w o s i (contentAt w t i)
+    go : (t ≡ s) ⊎ Moved (seen w o) (contentOn (o .port) (o .datagram)) w s (offered o w s) → Due w o s i (contentAt w t i)
     go (inl q) = rw q (stood i h (ap (λ z. markAt z i) (sym q) ∙ e))
     go (inr M) =
         let n : isMissing (t .marks) i ≡ false = rw e in
@@ -175,12 +174,12 @@ made-due o w s based i h e = go (moves (o .port) (o .datagram) w s based)
 
 -- a packet that was present stays as it was
 pub made-stays : ClaimStays
-made-stays o w s based i h e = go (moves (o .port) (o .datagram) w s based)
+made-stays o w s based i h e = go (moves (o .datagram) w s based (o .port))
   where
     t : Store
     t = offered o w s .store
 
-    go : (t ≡ s) ⊎ Moved (o .port) (o .datagram) w s → (markAt t i ≡ 1) × (contentAt w t i ≡ contentAt w s i)
+    go : (t ≡ s) ⊎ Moved (seen w o) (contentOn (o .port) (o .datagram)) w s (offered o w s) → (markAt t i ≡ 1) × (contentAt w t i ≡ contentAt w s i)
     go (inl q) = rw q (e, refl)
     go (inr M) =
         let n : isMissing (s .marks) i ≡ false = rw e in

@@ -42,11 +42,6 @@ pub none-split : (ts us : List (ℕ × Bool)) → None (ts ++ us) → None ts ×
 none-split [] us n = (tt, n)
 none-split ((k, t) ∷ ts) us n = let z = none-split ts us (n .1) in ((n .0, z .0), z .1)
 
--- and back
-pub none-join : (ts us : List (ℕ × Bool)) → None ts → None us → None (ts ++ us)
-none-join [] us m n = n
-none-join ((k, t) ∷ ts) us m n = (m .0, none-join ts us (m .1) n)
-
 -- a call that answers done met no refusal
 pub done-first : (ts : List (ℕ × Bool)) (x y : Outcome) (k c : ℕ) → y .answer ≡ Refused k → cond (eqb (first ts) 0) x y .answer ≡ Done c → first ts ≡ 0
 done-first ts x y k c r e = go (eqb (first ts) 0) refl e

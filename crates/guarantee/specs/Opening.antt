@@ -6,7 +6,7 @@ use Prim.Native.Nat.{ℕ, _*_, _^_, _<_, _≤_}
 use native.Mathlib.Omega.{arith}
 use lib.ListN.{length, getD, replicate, drop, length-append, length-replicate, List·getD-append, getD-replicate}
 use Rattle.answer.specs.declared.Answer.the-variants.{Done, Refused}
-use Rattle.answer.specs.First.{first, None, first-append, first-end, first-none}
+use Rattle.answer.specs.First.{first, None, first-none}
 use Rattle.sequence.specs.Lists.{upTo}
 use Rattle.window.specs.declared.Window.{Window}
 use Rattle.window.specs.Record.{blank}
@@ -14,6 +14,7 @@ use Rattle.window.specs.Limits.{width, rows, setUpTests}
 use Rattle.window.specs.Store.{Store, shortStore}
 use Rattle.window.specs.Order.{isPresent, inUse}
 use Rattle.calls.specs.Call.{noWindow, standingTests, openTests, opened, cleared}
+use Rattle.calls.specs.Passed.{none-first}
 use Rattle.guarantee.specs.Ranges.{upTo-lt, count-zero, keep-nothing}
 use Rattle.guarantee.specs.Order.{Ordered, stands}
 use Rattle.guarantee.specs.Offers.{none-split, done-first}
@@ -73,7 +74,7 @@ module _ (w : Window) (s : Store) where
   opened-start t based F n a u = record {
     base-fits = based;
     fills = F;
-    passes = first-append (standingTests w (cleared w s) 0 0) [] (stands w (w .present) (w .«in_use») (cleared w s) n (cleared-order a u)) ∙ sym first-end;
+    passes = none-first (standingTests w (cleared w s) 0 0) (stands w (w .present) (w .«in_use») (cleared w s) n (cleared-order a u));
     holds = record {
       media = λ i h e. absurd (let z : markAt (cleared w s) i ≡ 0 = front-at (w .n) 0 (s .marks) i h in omega (arith, e));
       parity = λ r h e. absurd (true≢false (sym e ∙ unused r h));

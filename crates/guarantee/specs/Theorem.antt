@@ -9,7 +9,6 @@ use native.Mathlib.Omega.{arith}
 use lib.ListN.{length}
 use lib.Dec.{ltb}
 use borrow.Author.Tests.{eqb-true, lt-ltb, ltb-true}
-use Rattle.answer.specs.First.{first-append, first-end}
 use Rattle.sequence.specs.Lists.{upTo, and-split as both}
 use Rattle.sequence.specs.Wrap.{numberAt}
 use Rattle.rtp.specs.Fec.{column, row, snbase}
@@ -22,6 +21,7 @@ use Rattle.calls.specs.Content.{xorContents, contentAt, recoveryAt}
 use Rattle.calls.specs.State.{recount}
 use Rattle.calls.specs.Call.{Outcome, standingTests, asked, cleared, opened}
 use Rattle.calls.specs.Standing.{standing-good}
+use Rattle.calls.specs.Passed.{none-first}
 use Rattle.peel.specs.Peel as Theory
 use Rattle.peel.specs.Rest.{Still}
 use Rattle.peel.specs.Theorem.{right, stopping, missing-iff, same, run-inv}
@@ -169,8 +169,8 @@ module _ {w : Window} (O : Opened w) {t : Stretch} (F : Fills w t) where
     start-again = record {
       base-fits = O .based;
       fills = record { timestamp-fits = F .timestamp-fits; size = F .size; bytes = F .bytes };
-      passes = first-append (standingTests (recount w (arrived .fine .present) (arrived .fine .used)) (y .store) 0 0) []
-          (stands w (arrived .fine .present) (arrived .fine .used) (y .store) (O .faultless) (arrived .fine .order)) ∙ sym first-end;
+      passes = none-first (standingTests (recount w (arrived .fine .present) (arrived .fine .used)) (y .store) 0 0)
+          (stands w (arrived .fine .present) (arrived .fine .used) (y .store) (O .faultless) (arrived .fine .order));
       holds = record { media = holds-again .media; parity = holds-again .parity };
     }
 
