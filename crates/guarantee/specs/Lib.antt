@@ -21,6 +21,7 @@ pub mod Names
 pub mod Fine
 pub mod Opening
 pub mod Recount
+pub mod Run
 pub mod Theorem
 pub mod Made
 pub mod Budget

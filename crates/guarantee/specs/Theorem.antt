@@ -2,220 +2,137 @@
 -- of Fine.antt, and the theory's theorems give the conclusions.
 use mathlib.Core.Path.{_≡_, refl, sym, ap, _∙_, subst}
 use mathlib.Core.Logic.{_⊎_, inl, inr, ⊎-elim}
-use mathlib.Core.Bool.{Bool, true, false, cond, _&&_, and-true, true≢false}
-use mathlib.Core.List.{List, [], _∷_, _++_, map, List·Memᴰ, List·Memᴰ·head, List·Memᴰ·tail, Memᴰ·cast, Memᴰ·map, Memᴰ·append-left, Memᴰ·append-right}
+use mathlib.Core.Bool.{Bool, true, false, _&&_, true≢false}
+use mathlib.Core.List.{List, [], _∷_, _++_, map, List·Memᴰ, List·Memᴰ·head, List·Memᴰ·tail}
 use Prim.Native.Nat.{ℕ, _<_, _≤_}
 use native.Mathlib.Omega.{arith}
 use lib.ListN.{length}
 use lib.Dec.{ltb}
 use borrow.Author.Tests.{eqb-true, lt-ltb, ltb-true}
-use Rattle.sequence.specs.Lists.{upTo, and-split as both}
+use Rattle.sequence.specs.Lists.{and-split as both}
 use Rattle.sequence.specs.Wrap.{numberAt}
 use Rattle.rtp.specs.Fec.{column, row, snbase}
 use Rattle.window.specs.declared.Window.{Window}
 use Rattle.window.specs.Limits.{width, rows, room}
-use Rattle.window.specs.Store.{Store, payloadAt, recordAt}
-use Rattle.window.specs.Group.{position, group, inside, isMissing}
-use Rattle.window.specs.Order.{inUse}
-use Rattle.calls.specs.Content.{xorContents, contentAt, recoveryAt}
+use Rattle.window.specs.Store.{Store, payloadAt}
+use Rattle.window.specs.Group.{group, inside, isMissing}
+use Rattle.calls.specs.Content.{Content, xorContents, contentAt, recoveryAt}
 use Rattle.calls.specs.State.{recount}
 use Rattle.calls.specs.Call.{Outcome, standingTests, asked, cleared, opened}
-use Rattle.calls.specs.Standing.{standing-good}
 use Rattle.calls.specs.Passed.{none-first}
 use Rattle.peel.specs.Peel as Theory
 use Rattle.peel.specs.Rest.{Still}
 use Rattle.peel.specs.Theorem.{right, stopping, missing-iff, same, run-inv}
-use Rattle.guarantee.specs.Ranges.{decide, keep-ext, count-keep, upTo-mem, keep-mem}
-use Rattle.guarantee.specs.Packets.{packet-content, length-part}
+use Rattle.guarantee.specs.Ranges.{decide, keep-ext, count-keep}
+use Rattle.guarantee.specs.Packets.{Packet, packet-content, length-part}
 use Rattle.guarantee.specs.View.{Limits, groupOf, group-lt, code, checkAt, packetAt, view, slot-present, miss-mark, Good, mark-one}
 use Rattle.guarantee.specs.Recount.{fills-on, holds-on, unaltered-on}
-use Rattle.guarantee.specs.Order.{Ordered, limits, set-up-passes, standing, stands}
+use Rattle.guarantee.specs.Order.{limits, stands}
 use Rattle.guarantee.specs.Accepted.{rests}
-use Rattle.guarantee.specs.Fine.{Opened, Fine, Goes, fine-media, fine-parity, refused-parity}
-use Rattle.guarantee.specs.Demand3.{Port, mediaPort, columnPort, rowPort, Offer, callOf, offered, run, Stretch, Fills, UnalteredOn, Unaltered, Name, mediaName, parityName, nameOn, nameOf, namesOf, Received, groupNamed, distinctGroups, Given, markAt, Hidden, Demand3, Claim, SamePackets, ClaimSame}
-use Rattle.guarantee.specs.Start.{Holds, Start, mediaHeld, parityHeld, heldAnd, every, counts, counted, receivedFrom, GivenFrom, ClaimFrom, ClaimSameFrom, ClaimChain}
-use Rattle.guarantee.specs.Sent.{sent, seenOn, seen, media-read, parity-read, position-number, recovery-size, recovery-sum}
-use Rattle.guarantee.specs.Names.{distinct-has, Got, got-unaltered, media-in, check-in, in-media, in-check}
+use Rattle.guarantee.specs.Fine.{Goes}
+use Rattle.guarantee.specs.Demand3.{Port, mediaPort, columnPort, rowPort, Offer, offered, run, Stretch, Fills, UnalteredOn, Unaltered, Name, mediaName, nameOn, namesOf, Received, groupNamed, distinctGroups, Given, markAt, Hidden, Demand3, Claim, SamePackets, ClaimSame}
+use Rattle.guarantee.specs.Start.{Holds, Start, heldAnd, every, counted, receivedFrom, GivenFrom, ClaimFrom, ClaimSameFrom, ClaimChain}
+use Rattle.guarantee.specs.Sent.{sent, seen, parity-read, recovery-size, recovery-sum}
+use Rattle.guarantee.specs.Names.{Got, got-unaltered, media-in, check-in, in-media, in-check}
+use Rattle.guarantee.specs.Run.{Ready, ready-at, arrives}
 use Rattle.guarantee.specs.Opening.{opening, opened-start, none-held}
 
-module _ {w : Window} (O : Opened w) {t : Stretch} (F : Fills w t) where
+-- ---- what holds after a run
+
+module _ {w : Window} {a u : ℕ} {s : Store} {t : Stretch} {offers : List Offer} (R : Ready w a u s t offers) {D : List (ℕ × ℕ)} {y : Outcome}
+    (arrived : Goes w D (map (seen w) (counted w offers)) s y) where
   -- the window is within its limits
   L : Limits w
-  L = limits w (O .based) (O .faultless)
+  L = limits w (R .within .based) (R .within .faultless)
 
-  -- ---- the run
+  -- what was received is unaltered
+  unaltered : (p : Theory.Offer (ℕ × ℕ) Content Packet) → Got w s (counted w offers) p → Theory.Unaltered (code w) (sent t) p
+  unaltered = got-unaltered L (R .fills) (R .ordered .good) (R .unaltered) (R .holds)
 
-  module _ {D : List (ℕ × ℕ)} (enough : length D ≤ room w) where
-    -- an unaltered offer keeps the invariant
-    fine-offer : (p : Port) (g : List ℕ) → UnalteredOn w t p g → ((stream snbase : ℕ) → nameOn p g ≡ parityName stream snbase → List·Memᴰ (stream, snbase) D)
-        → {v : Window} {s : Store} → Fine w D v s → Goes w D (seenOn w p g ∷ []) s (callOf p v g s)
-    fine-offer mediaPort g u key f =
-        let r = media-read L F g u in
-        fine-media O enough g (r .faultless) (rw (ap (position w) (r .number) ∙ position-number L (r .place) (r .below)) (r .below)) f
-    fine-offer columnPort g u key f = let r = parity-read L F column (omega arith) g u in fine-parity O enough column (omega arith) g (r .faultless) (r .within) (key column (snbase g) refl) f
-    fine-offer rowPort g u key f = let r = parity-read L F row (omega arith) g u in fine-parity O enough row (omega arith) g (r .faultless) (r .within) (key row (snbase g) refl) f
+  -- nothing of it was lost
+  inv : Theory.Inv (code w) (Got w s (counted w offers)) (view w (y .store))
+  inv = run-inv (code w) (sent t) unaltered (arrived .runs)
 
-    -- one that does not count is refused, and leaves all as it was
-    outside-refused : (p : Port) (g : List ℕ) → every (λ k. inside w (k .0) (k .1)) (groupNamed (nameOn p g)) ≡ false → {v : Window} {s : Store} → Fine w D v s → Goes w D [] s (callOf p v g s)
-    outside-refused mediaPort g e f = absurd (true≢false e)
-    outside-refused columnPort g e f = refused-parity column g (rw and-true at e) f
-    outside-refused rowPort g e f = refused-parity row g (rw and-true at e) f
+  -- and the store is at rest
+  still : Still (code w) (view w (y .store))
+  still = rests (arrived .fine .order .good) (arrived .fine .order .waits)
 
-    -- and so does a list of them
-    fine-run : (offers : List Offer) → ((o : Offer) → List·Memᴰ o (counted w offers) → Unaltered w t o)
-        → ((o : Offer) → List·Memᴰ o (counted w offers) → (stream snbase : ℕ) → nameOf o ≡ parityName stream snbase → List·Memᴰ (stream, snbase) D)
-        → (x : Outcome) → Fine w D (x .window) (x .store) → Goes w D (map (seen w) (counted w offers)) (x .store) (run x offers)
-    unfolding run
-    fine-run [] ok key x f = record { fine = f; runs = Theory.done }
-    fine-run (o ∷ offers) ok key x f = go (counts w o) refl ok key (fine-run offers)
-      where
-        next : Outcome
-        next = offered o (x .window) (x .store)
+  -- what is missing is hidden
+  missing-hidden : Hidden w (receivedFrom w s offers) (λ i. ltb i (w .n) && Theory.miss (view w (y .store)) i)
+  missing-hidden = record {
+    of-stretch = λ i e. ltb-true i (w .n) (both (ltb i (w .n)) (Theory.miss (view w (y .store)) i) e .0);
+    unreceived = λ i e m. let b = both (ltb i (w .n)) (Theory.miss (view w (y .store)) i) e in
+        let x = in-media L (R .fills) (R .ordered .good) (R .unaltered) i (ltb-true i (w .n) (b .0)) m in
+        true≢false (sym (b .1) ∙ inv .all (Theory.media i (x .0)) (x .1));
+    never-one = λ stream snbase m e. let c = in-check L (R .fills) (R .ordered .good) (R .unaltered) stream snbase m in
+        let h = check-in L (R .fills) (R .ordered .good) (R .unaltered) (stream, snbase) (c .0) (c .1) in
+        stopping (code w) inv still .never-one (stream, snbase) (c .0) (c .1)
+        (count-keep (Theory.miss (view w (y .store))) (group w stream snbase)
+        ∙ ap length (keep-ext (Theory.miss (view w (y .store))) kept (group w stream snbase) (inner stream snbase (h .0))) ∙ e);
+  }
+    where
+      kept : ℕ → Bool
+      kept i = ltb i (w .n) && Theory.miss (view w (y .store)) i
 
-        go : (b : Bool) → counts w o ≡ b → ((p : Offer) → List·Memᴰ p (cond b (o ∷ counted w offers) (counted w offers)) → Unaltered w t p)
-            → ((p : Offer) → List·Memᴰ p (cond b (o ∷ counted w offers) (counted w offers)) → (stream snbase : ℕ) → nameOf p ≡ parityName stream snbase → List·Memᴰ (stream, snbase) D)
-            → (((p : Offer) → List·Memᴰ p (counted w offers) → Unaltered w t p)
-            → ((p : Offer) → List·Memᴰ p (counted w offers) → (stream snbase : ℕ) → nameOf p ≡ parityName stream snbase → List·Memᴰ (stream, snbase) D)
-            → (y : Outcome) → Fine w D (y .window) (y .store) → Goes w D (map (seen w) (counted w offers)) (y .store) (run y offers))
-            → Goes w D (map (seen w) (cond b (o ∷ counted w offers) (counted w offers))) (x .store) (run next offers)
-        go true e ok key rest =
-            let a = fine-offer (o .port) (o .datagram) (ok o (List·Memᴰ·head refl)) (key o (List·Memᴰ·head refl)) f in
-            let b = rest (λ p m. ok p (List·Memᴰ·tail m)) (λ p m. key p (List·Memᴰ·tail m)) next (a .fine) in
-            record { fine = b .fine; runs = Theory.runs-then (code w) (a .runs) (b .runs) }
-        go false e ok key rest =
-            let a = outside-refused (o .port) (o .datagram) e f in
-            let b = rest ok key next (a .fine) in
-            record { fine = b .fine; runs = Theory.runs-then (code w) (a .runs) (b .runs) }
+      inner : (stream snbase : ℕ) → inside w stream snbase ≡ true → (i : ℕ) → List·Memᴰ i (group w stream snbase) → Theory.miss (view w (y .store)) i ≡ kept i
+      inner stream snbase h i m = rw (lt-ltb i (w .n) (group-lt w stream snbase h i m))
 
-  -- ---- what holds after it
+  -- what is hidden is a stopping set of the theory
+  hidden-stopping : (S : ℕ → Bool) → Hidden w (receivedFrom w s offers) S → Theory.Stopping (code w) (Got w s (counted w offers)) S
+  hidden-stopping S h = record {
+    unreceived = λ i x m. outside i (λ e. h .unreceived i e (media-in L (R .fills) (R .ordered .good) (R .unaltered) i x m .1));
+    never-one = λ k x m e. h .never-one (k .0) (k .1) (check-in L (R .fills) (R .ordered .good) (R .unaltered) k x m .1) (sym (count-keep S (groupOf w k)) ∙ e);
+  }
+    where
+      outside : (i : ℕ) → (S i ≡ true → ⊥) → S i ≡ false
+      outside i n = ⊎-elim (λ e. absurd (n e)) (λ e. e) (decide (S i))
 
-  module _ {s : Store} {a u : ℕ} (start : Ordered w a u s) (H : Holds w t s) {offers : List Offer} (ok : (o : Offer) → List·Memᴰ o offers → Unaltered w t o)
-      {D : List (ℕ × ℕ)} {y : Outcome} (arrived : Goes w D (map (seen w) offers) s y) where
-    -- nothing of it was lost
-    inv : Theory.Inv (code w) (Got w s offers) (view w (y .store))
-    inv = run-inv (code w) (sent t) (got-unaltered L F (start .good) ok H) (arrived .runs)
+  -- a payload that is kept has P bytes
+  size-at : (i : ℕ) → i < w .n → length (payloadAt w (y .store) i) ≡ w .p
+  size-at i h = length-part (y .store .media) i (w .n) (w .p) h (arrived .fine .order .good .fits .media-long)
 
-    -- and the store is at rest
-    still : Still (code w) (view w (y .store))
-    still = rests (arrived .fine .order .good) (arrived .fine .order .waits)
+  -- what is present is what was sent
+  present-sent : (i : ℕ) → i < w .n → markAt (y .store) i ≡ 1 → contentAt w (y .store) i ≡ t i
+  present-sent i h e =
+      let n : isMissing (y .store .marks) i ≡ false = rw e in
+      packet-content (contentAt w (y .store) i) (t i) (size-at i h ∙ sym (R .fills .size i h))
+      (right (code w) (sent t) (inv .sound) unaltered i (packetAt w (y .store) i) (slot-present w (y .store) i h n))
 
-    -- what is missing is hidden
-    missing-hidden : Hidden w (heldAnd w s offers) (λ i. ltb i (w .n) && Theory.miss (view w (y .store)) i)
-    missing-hidden = record {
-      of-stretch = λ i e. ltb-true i (w .n) (both (ltb i (w .n)) (Theory.miss (view w (y .store)) i) e .0);
-      unreceived = λ i e m. let b = both (ltb i (w .n)) (Theory.miss (view w (y .store)) i) e in
-          let x = in-media L F (start .good) ok i (ltb-true i (w .n) (b .0)) m in
-          true≢false (sym (b .1) ∙ inv .all (Theory.media i (x .0)) (x .1));
-      never-one = λ stream snbase m e. let c = in-check L F (start .good) ok stream snbase m in
-          let h = check-in L F (start .good) ok (stream, snbase) (c .0) (c .1) in
-          stopping (code w) inv still .never-one (stream, snbase) (c .0) (c .1)
-          (count-keep (Theory.miss (view w (y .store))) (group w stream snbase)
-          ∙ ap length (keep-ext (Theory.miss (view w (y .store))) kept (group w stream snbase) (inner stream snbase (h .0))) ∙ e);
-    }
-      where
-        kept : ℕ → Bool
-        kept i = ltb i (w .n) && Theory.miss (view w (y .store)) i
+  -- demand 3
+  conclusions : Demand3 w t (receivedFrom w s offers) (y .store)
+  conclusions = record {
+    mark = λ i h. ⊎-elim (λ e. inl (eqb-true (markAt (y .store) i) 0 e)) (λ e. inr (mark-one (arrived .fine .order .good) i h e)) (decide (isMissing (y .store .marks) i));
+    present = present-sent;
+    missing = λ i h. (
+      λ e. (λ j. ltb j (w .n) && Theory.miss (view w (y .store)) j, missing-hidden, rw (lt-ltb i (w .n) h, miss-mark w (y .store) i h, e)),
+      λ q. eqb-true (markAt (y .store) i) 0 (sym (miss-mark w (y .store) i h) ∙ missing-iff (code w) inv still i .1 (q .0, hidden-stopping (q .0) (q .1), q .2)),
+    );
+  }
 
-        inner : (stream snbase : ℕ) → inside w stream snbase ≡ true → (i : ℕ) → List·Memᴰ i (group w stream snbase) → Theory.miss (view w (y .store)) i ≡ kept i
-        inner stream snbase h i m = rw (lt-ltb i (w .n) (group-lt w stream snbase h i m))
+  -- and all that the store holds is unaltered again
+  holds-again : Holds w t (y .store)
+  holds-again = record {
+    media = present-sent;
+    parity = λ r h e. let k = checkAt (y .store) r in
+        let c = recoveryAt w (y .store) r in
+        let i = arrived .fine .order .good .shaped r h e .within in
+        let m : Got w s (counted w offers) (Theory.check k c) = inv .sound .kept k c (record { at = r; below = h; used = e; names = refl; carries = refl }) in
+        packet-content c (xorContents (w .p) t (groupOf w k))
+        (length-part (y .store .parity) r (rows w) (w .p) h (arrived .fine .order .good .fits .parity-long) ∙ sym (recovery-size (R .fills) k i))
+        (unaltered (Theory.check k c) m .0 ∙ sym (recovery-sum (R .fills) k i));
+  }
 
-    -- what is hidden is a stopping set of the theory
-    hidden-stopping : (S : ℕ → Bool) → Hidden w (heldAnd w s offers) S → Theory.Stopping (code w) (Got w s offers) S
-    hidden-stopping S h = record {
-      unreceived = λ i x m. outside i (λ e. h .unreceived i e (media-in L F (start .good) ok i x m .1));
-      never-one = λ k x m e. h .never-one (k .0) (k .1) (check-in L F (start .good) ok k x m .1) (sym (count-keep S (groupOf w k)) ∙ e);
-    }
-      where
-        outside : (i : ℕ) → (S i ≡ true → ⊥) → S i ≡ false
-        outside i n = ⊎-elim (λ e. absurd (n e)) (λ e. e) (decide (S i))
-
-    -- a payload that is kept has P bytes
-    size-at : (i : ℕ) → i < w .n → length (payloadAt w (y .store) i) ≡ w .p
-    size-at i h = length-part (y .store .media) i (w .n) (w .p) h (arrived .fine .order .good .fits .media-long)
-
-    -- what is present is what was sent
-    present-sent : (i : ℕ) → i < w .n → markAt (y .store) i ≡ 1 → contentAt w (y .store) i ≡ t i
-    present-sent i h e =
-        let n : isMissing (y .store .marks) i ≡ false = rw e in
-        packet-content (contentAt w (y .store) i) (t i) (size-at i h ∙ sym (F .size i h))
-        (right (code w) (sent t) (inv .sound) (got-unaltered L F (start .good) ok H) i (packetAt w (y .store) i) (slot-present w (y .store) i h n))
-
-    -- demand 3
-    conclusions : Demand3 w t (heldAnd w s offers) (y .store)
-    conclusions = record {
-      mark = λ i h. ⊎-elim (λ e. inl (eqb-true (markAt (y .store) i) 0 e)) (λ e. inr (mark-one (arrived .fine .order .good) i h e)) (decide (isMissing (y .store .marks) i));
-      present = present-sent;
-      missing = λ i h. (
-        λ e. (λ j. ltb j (w .n) && Theory.miss (view w (y .store)) j, missing-hidden, rw (lt-ltb i (w .n) h, miss-mark w (y .store) i h, e)),
-        λ q. eqb-true (markAt (y .store) i) 0 (sym (miss-mark w (y .store) i h) ∙ missing-iff (code w) inv still i .1 (q .0, hidden-stopping (q .0) (q .1), q .2)),
-      );
-    }
-
-    -- and all that the store holds is unaltered again
-    holds-again : Holds w t (y .store)
-    holds-again = record {
-      media = present-sent;
-      parity = λ r h e. let k = checkAt (y .store) r in
-          let c = recoveryAt w (y .store) r in
-          let i = arrived .fine .order .good .shaped r h e .within in
-          let m : Got w s offers (Theory.check k c) = inv .sound .kept k c (record { at = r; below = h; used = e; names = refl; carries = refl }) in
-          packet-content c (xorContents (w .p) t (groupOf w k))
-          (length-part (y .store .parity) r (rows w) (w .p) h (arrived .fine .order .good .fits .parity-long) ∙ sym (recovery-size F k i))
-          (got-unaltered L F (start .good) ok H (Theory.check k c) m .0 ∙ sym (recovery-sum F k i));
-    }
-
-    -- so it is a start, with the counts that it has then
-    start-again : Start (recount w (arrived .fine .present) (arrived .fine .used)) t (y .store)
-    start-again = record {
-      base-fits = O .based;
-      fills = record { timestamp-fits = F .timestamp-fits; size = F .size; bytes = F .bytes };
-      passes = none-first (standingTests (recount w (arrived .fine .present) (arrived .fine .used)) (y .store) 0 0)
-          (stands w (arrived .fine .present) (arrived .fine .used) (y .store) (O .faultless) (arrived .fine .order));
-      holds = record { media = holds-again .media; parity = holds-again .parity };
-    }
+  -- so it is a start, with the counts that it has then
+  start-again : Start (recount w (arrived .fine .present) (arrived .fine .used)) t (y .store)
+  start-again = record {
+    base-fits = R .within .based;
+    fills = fills-on w (arrived .fine .present) (arrived .fine .used) t (R .fills);
+    passes = none-first (standingTests (recount w (arrived .fine .present) (arrived .fine .used)) (y .store) 0 0)
+        (stands w (arrived .fine .present) (arrived .fine .used) (y .store) (R .within .faultless) (arrived .fine .order));
+    holds = holds-on w (arrived .fine .present) (arrived .fine .used) t holds-again;
+  }
 
 -- ---- from any start
-
--- what is given, by the set-up numbers of a window value w and counts a and u
-record Ready (w : Window) (a u : ℕ) (s : Store) (t : Stretch) (offers : List Offer) : Type 0 where
-  pub within : Opened w
-  pub fills : Fills w t
-  pub ordered : Ordered w a u s
-  pub holds : Holds w t s
-  pub unaltered : (o : Offer) → List·Memᴰ o (counted w offers) → Unaltered w t o
-  pub few-groups : length (distinctGroups (receivedFrom w s offers)) ≤ room w
-
--- that is what is given
-ready-at : (w : Window) (a u : ℕ) (x : Outcome) {t : Stretch} {offers : List Offer} → x .window ≡ recount w a u → GivenFrom x t offers → Ready w a u (x .store) t offers
-ready-at w a u x {t} {offers} e G =
-    let H : GivenFrom (record { answer = x .answer; window = recount w a u; store = x .store }) t offers =
-    subst (λ v. GivenFrom (record { answer = x .answer; window = v; store = x .store }) t offers) e G in
-    let v : Window = recount w a u in
-    record {
-      within = record { based = H .start .base-fits; faultless = set-up-passes v (x .store) (H .start .passes) };
-      fills = fills-on v (w .present) (w .«in_use») t (H .start .fills);
-      ordered = standing w a u (x .store) (standing-good v (x .store) 0 0 (H .start .passes));
-      holds = holds-on v (w .present) (w .«in_use») t (H .start .holds);
-      unaltered = λ o m. unaltered-on v (w .present) (w .«in_use») t o (H .unaltered o m);
-      few-groups = H .few-groups;
-    }
-
--- the list is a run from there
-arrives : {w : Window} {a u : ℕ} {t : Stretch} {offers : List Offer} (x : Outcome) → x .window ≡ recount w a u → Ready w a u (x .store) t offers
-    → Goes w (distinctGroups (receivedFrom w (x .store) offers)) (map (seen w) (counted w offers)) (x .store) (run x offers)
-arrives {w} {a} {u} {offers = offers} x e R = fine-run (R .within) (R .fills) (R .few-groups) offers (R .unaltered)
-    (λ o m a b e. distinct-has received a b (Memᴰ·append-right (mediaHeld w (x .store) ++ parityHeld w (x .store)) (Memᴰ·cast (sym e) (Memᴰ·map nameOf m)))) x
-    (record {
-      present = a;
-      used = u;
-      window = e;
-      order = R .ordered;
-      keyed = λ r h e. distinct-has received (recordAt (x .store) r .stream) (recordAt (x .store) r .snbase) (Memᴰ·append-left (namesOf (counted w offers)) (Memᴰ·append-right (mediaHeld w (x .store))
-          (Memᴰ·map (λ r. parityName (recordAt (x .store) r .stream) (recordAt (x .store) r .snbase)) (keep-mem (inUse w (x .store)) (upTo (rows w)) r e (upTo-mem (rows w) r h)))));
-    })
-  where
-    received : List Name
-    received = receivedFrom w (x .store) offers
 
 -- demand 3 from any start
 pub demand3-from : ClaimFrom
@@ -224,8 +141,8 @@ demand3-from x t offers G =
     let A = arrives x refl R in
     record {
       set-up = rw (A .fine .window);
-      demand = conclusions (R .within) (R .fills) (R .ordered) (R .holds) (R .unaltered) A;
-      start = rw (A .fine .window) (start-again (R .within) (R .fills) (R .ordered) (R .holds) (R .unaltered) A);
+      demand = conclusions R A;
+      start = rw (A .fine .window) (start-again R A);
     }
 
 -- lists, one after the other
@@ -257,8 +174,8 @@ covered {w} L F E G H ok ko sub = record {
 
 -- from any starts of the same set-up numbers
 pub demand3-same-from : ClaimSameFrom
-demand3-same-from x y t u offers others G H e names i h = go (conclusions (R .within) (R .fills) (R .ordered) (R .holds) (R .unaltered) A .mark i h)
-    (conclusions (Q .within) (Q .fills) (Q .ordered) (Q .holds) (Q .unaltered) B .mark i h)
+demand3-same-from x y t u offers others G H e names i h = go (conclusions R A .mark i h)
+    (conclusions Q B .mark i h)
   where
     w : Window
     w = x .window
@@ -275,19 +192,16 @@ demand3-same-from x y t u offers others G H e names i h = go (conclusions (R .wi
     B : Goes w (distinctGroups (receivedFrom w (y .store) others)) (map (seen w) (counted w others)) (y .store) (run y others)
     B = arrives y e Q
 
-    L′ : Limits w
-    L′ = limits w (R .within .based) (R .within .faultless)
-
     packets : SamePackets (receivedFrom w (x .store) offers) (receivedFrom w (y .store) others)
     packets = subst (λ v. SamePackets (receivedFrom w (x .store) offers) (receivedFrom v (y .store) others)) e names
 
     missing : isMissing (run x offers .store .marks) i ≡ isMissing (run y others .store .marks) i
     missing =
         sym (miss-mark w (run x offers .store) i h)
-        ∙ same (code w) (inv (R .within) (R .fills) (R .ordered) (R .holds) (R .unaltered) A) (still (R .within) (R .fills) (R .ordered) (R .holds) (R .unaltered) A)
-        (inv (Q .within) (Q .fills) (Q .ordered) (Q .holds) (Q .unaltered) B) (still (Q .within) (Q .fills) (Q .ordered) (Q .holds) (Q .unaltered) B)
-        (covered L′ (R .fills) (Q .fills) (R .ordered .good) (Q .ordered .good) (R .unaltered) (Q .unaltered) (λ z. packets z .0))
-        (covered L′ (Q .fills) (R .fills) (Q .ordered .good) (R .ordered .good) (Q .unaltered) (R .unaltered) (λ z. packets z .1)) i
+        ∙ same (code w) (inv R A) (still R A)
+        (inv Q B) (still Q B)
+        (covered (L R A) (R .fills) (Q .fills) (R .ordered .good) (Q .ordered .good) (R .unaltered) (Q .unaltered) (λ z. packets z .0))
+        (covered (L R A) (Q .fills) (R .fills) (Q .ordered .good) (R .ordered .good) (Q .unaltered) (R .unaltered) (λ z. packets z .1)) i
         ∙ miss-mark w (run y others .store) i h
 
     go : (markAt (run x offers .store) i ≡ 0) ⊎ (markAt (run x offers .store) i ≡ 1) → (markAt (run y others .store) i ≡ 0) ⊎ (markAt (run y others .store) i ≡ 1)
