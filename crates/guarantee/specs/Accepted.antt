@@ -25,7 +25,7 @@ use Rattle.peel.specs.Group as Peel
 use Rattle.peel.specs.Peel.{Offer, media, check, View, gone, miss, Take, pass, Runs, done, took, made, runs-then, steps-run}
 use Rattle.peel.specs.Rest.{Still, rounds, rounds-keep, rounds-steps, rounds-still}
 use Rattle.guarantee.specs.Ranges.{count-not, count-raise, first-kept, upTo-lt}
-use Rattle.guarantee.specs.Packets.{Packet, packetOf}
+use Rattle.guarantee.specs.Packets.{Whole, Packet, packetOf}
 use Rattle.guarantee.specs.View.{Limits, code, checkAt, Shaped, member-lt, slotAt, Held, view, slot-missing, miss-count, Good, Missing, held-count}
 use Rattle.guarantee.specs.Changes.{fill-keeps, fill-new, put-filled, put-others, put-held, put-was-held, put-good, put-missing, record-slot, record-same, recovery-same, record-other, record-held, record-was-held, of-each, record-good}
 use Rattle.guarantee.specs.Moves.{rebuiltIn, Solved, solved, step-rebuild}
@@ -46,7 +46,7 @@ module _ {w : Window} (L : Limits w) {a u : ℕ} {s : Store} (G : Good w a u s) 
   -- ---- a media packet
 
   -- a media packet whose position is missing becomes present
-  pub take-media : (i : ℕ) (c : Content) → i < w .n → isMissing (s .marks) i ≡ true → length (c .payload) ≡ w .p → Taken w a s (media i (packetOf c)) 1 (storeMedia i c (at w a u s 0))
+  pub take-media : (i : ℕ) (c : Content) → i < w .n → isMissing (s .marks) i ≡ true → Whole (w .p) c → Taken w a s (media i (packetOf c)) 1 (storeMedia i c (at w a u s 0))
   take-media i c h e hp = record {
     working = record { present = a + 1; used = u; store = t; count = 0; is = refl; good = put-good G i c h hp e; least = put-missing G i c h hp L 1 K; rise = omega arith };
     runs = took move done;
@@ -67,7 +67,7 @@ module _ {w : Window} (L : Limits w) {a u : ℕ} {s : Store} (G : Good w a u s) 
 
   -- ---- a parity packet that is not in hand
 
-  module _ (stream snbase : ℕ) (c : Content) (S : Shaped w (stream, snbase)) (hp : length (c .payload) ≡ w .p) (new : (q : ℕ) → q < rows w → inUse w s q ≡ true → checkAt s q ≡ (stream, snbase) → ⊥) where
+  module _ (stream snbase : ℕ) (c : Content) (S : Shaped w (stream, snbase)) (hp : Whole (w .p) c) (new : (q : ℕ) → q < rows w → inUse w s q ≡ true → checkAt s q ≡ (stream, snbase) → ⊥) where
     -- none missing: it is of no use
     take-none : missing (s .marks) (group w stream snbase) ≡ [] → Taken w a s (check (stream, snbase) c) 0 (at w a u s 0)
     take-none e = record {

@@ -1,15 +1,16 @@
 -- Rounds with any budget, and any other engine (calls' Settle.antt, the theory's Rest.antt): what holds beyond the settling of a call.
 use mathlib.Core.Path.{_≡_, sym, subst}
 use mathlib.Core.Logic.{_⊎_, inl}
-use mathlib.Core.List.{[], List·Memᴰ·not-nil}
+use mathlib.Core.List.{List, [], List·Memᴰ, List·Memᴰ·not-nil}
 use Prim.Native.Nat.{ℕ, _+_, _<_, _≤_}
+use lib.ListN.{length}
 use Rattle.window.specs.declared.Window.{Window}
 use Rattle.calls.specs.Content.{Content}
 use Rattle.calls.specs.State.{State}
 use Rattle.calls.specs.Settle.{round}
 use Rattle.peel.specs.Peel as Peel
 use Rattle.peel.specs.Peel.{View, Steps, Has}
-use Rattle.peel.specs.Rest.{Still, rounds, rounds-steps, rounds-quiet, rounds-spend}
+use Rattle.peel.specs.Rest.{Still, rounds, rounds-steps, rounds-quiet, rounds-spend, Quiet, budgets-quiet}
 use Rattle.peel.specs.Theorem.{engines-agree}
 use Rattle.guarantee.specs.Packets.{Packet}
 use Rattle.guarantee.specs.View.{Limits, code, view}
@@ -18,6 +19,11 @@ use Rattle.guarantee.specs.Demand3.{Stretch, Fills}
 use Rattle.guarantee.specs.Start.{Holds}
 use Rattle.guarantee.specs.Sent.{sent}
 use Rattle.guarantee.specs.Names.{got-unaltered}
+
+-- of calls with these budgets of rounds, one after the other, some call leaves nothing to rebuild, if there is a call more than records
+-- in use, and none has a budget of nothing
+pub budgets-finish : {w : Window} {a : ℕ} {y : State} → Working w a y → (bs : List ℕ) → ((b : ℕ) → List·Memᴰ b bs → 0 < b) → y .window .«in_use» < length bs → Quiet (code w) (engine w a) bs y
+budgets-finish {w} {a} {y} W bs = budgets-quiet (code w) (engine w a) bs y W
 
 module _ {w : Window} {a : ℕ} {y : State} (W : Working w a y) (b : ℕ) where
   -- b rounds that rebuilt fewer than b packets have left nothing to rebuild

@@ -24,7 +24,7 @@ use Rattle.calls.specs.Content.{Content, contentAt, recoveryAt}
 use Rattle.calls.specs.State.{put, putRecord}
 use Rattle.peel.specs.Peel.{View, gone, Keeps}
 use Rattle.guarantee.specs.Ranges.{count-raise, count-lower}
-use Rattle.guarantee.specs.Packets.{packetOf, part-fits, part-same, part-other}
+use Rattle.guarantee.specs.Packets.{Whole, packetOf, part-fits, part-same, part-other}
 use Rattle.guarantee.specs.View.{Limits, checkAt, Shaped, once, slotAt, Held, slot-present, Good, Missing}
 
 -- ---- a slot is filled
@@ -52,7 +52,7 @@ not-one m e = ne-eqb m 1 (λ q. let z = eqb-true m 0 e in omega arith)
 
 -- ---- a packet becomes present
 
-module _ {w : Window} {a u : ℕ} {s : Store} (G : Good w a u s) (i : ℕ) (c : Content) (hi : i < w .n) (hp : length (c .payload) ≡ w .p) where
+module _ {w : Window} {a u : ℕ} {s : Store} (G : Good w a u s) (i : ℕ) (c : Content) (hi : i < w .n) (hp : Whole (w .p) c) where
   -- the payload has its place in the store
   media-room : i * w .p + w .p ≤ length (s .media)
   media-room = let z = part-fits i (w .n) (w .p) hi in omega (arith, G .fits .media-long)

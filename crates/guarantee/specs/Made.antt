@@ -6,17 +6,15 @@ use mathlib.Core.List.{List, [], _∷_, _++_, List·Memᴰ, List·Memᴰ·head, 
 use Prim.Native.Nat.{ℕ, _+_, _^_, _<_, _≤_}
 use native.Mathlib.Decide.{ℕ-discrete}
 use native.Mathlib.Omega.{arith}
-use lib.ListN.{length}
 use lib.Dec.{eqb}
 use borrow.Author.Tests.{eqb-true}
 use Rattle.answer.specs.declared.Answer.the-variants.{Done, Refused}
 use Rattle.answer.specs.First.{first}
-use Rattle.xor.specs.Xor.{length-zip}
 use Rattle.sequence.specs.Wrap.{numberAt, numberAt-ahead}
 use Rattle.rtp.specs.Rtp.{rtpHeaderSize, sequenceNumber}
 use Rattle.rtp.specs.Fec.{parityHeaderSize, column, row, snbase}
 use Rattle.window.specs.declared.Window.{Window}
-use Rattle.window.specs.Limits.{width, rows}
+use Rattle.window.specs.Limits.{width}
 use Rattle.window.specs.Store.{Store}
 use Rattle.window.specs.Group.{position, group, isMissing}
 use Rattle.calls.specs.Content.{Content, xorContent, xorContents, contentAt}
@@ -28,8 +26,8 @@ use Rattle.calls.specs.Passed.{media-passed, parity-passed, read-passed, write-
 use Rattle.peel.specs.Group as Peel
 use Rattle.peel.specs.Peel as Theory
 use Rattle.guarantee.specs.Ranges.{any-none}
-use Rattle.guarantee.specs.Packets.{Packet, xored, zeros, packetOf, contentFrom, length-first, content-from, packet-content, packet-xor, packet-total, length-payloads, length-part}
-use Rattle.guarantee.specs.View.{code, packetAt, view, group-lt, slot-present, slot-is, Good, mark-one}
+use Rattle.guarantee.specs.Packets.{Whole, Packet, xored, zeros, packetOf, contentFrom, length-first, content-from, packet-content, packet-xor, packet-total, whole-xor, whole-xors}
+use Rattle.guarantee.specs.View.{code, packetAt, view, group-lt, slot-present, slot-is, Good, content-whole, recovery-whole, mark-one}
 use Rattle.guarantee.specs.Order.{standing}
 use Rattle.guarantee.specs.Accepted.{Settled}
 use Rattle.guarantee.specs.Offers.{mediaSeen, paritySeen, media-kept, parity-kept, media-accepted, parity-accepted}
@@ -49,7 +47,7 @@ contentOn rowPort g = recoveryOf g
 -- and did nothing else
 pub record Moved (p : Theory.Offer (ℕ × ℕ) Content Packet) (c : Content) (w : Window) (s : Store) (x : Outcome) : Type 1 where
   pub before : Good w (w .present) (w .«in_use») s
-  pub size : length (c .payload) ≡ w .p
+  pub size : Whole (w .p) c
   pub runs : Theory.Runs (code w) (view w s) (p ∷ []) (view w (x .store))
   pub present : ℕ
   pub used : ℕ
@@ -57,7 +55,7 @@ pub record Moved (p : Theory.Offer (ℕ × ℕ) Content Packet) (c : Content) (w
 
 -- what settling leaves is such a move
 moved : {p : Theory.Offer (ℕ × ℕ) Content Packet} {c : Content} {w : Window} {s : Store} {more room need : ℕ} {x : Outcome}
-    → Standing w s room need → length (c .payload) ≡ w .p → Settled w (w .present) s p more x → Moved p c w s x
+    → Standing w s room need → Whole (w .p) c → Settled w (w .present) s p more x → Moved p c w s x
 moved {w = w} {s} z size t = record { before = standing w (w .present) (w .«in_use») s z .good; size = size; runs = t .runs; present = t .present; used = t .used; after = t .order .good }
 
 module _ (g : List ℕ) (w : Window) (s : Store) (based : w .base < 2 ^ 16) where
@@ -95,11 +93,11 @@ module _ (o : Offer) (w : Window) (s : Store) (M : Moved (seen w o) (contentOn (
   DueAt i x = Due w o s i (contentFrom (w .p) x) × (packetOf (contentFrom (w .p) x) ≡ x)
 
   -- a content of P bytes
-  due-content : {i : ℕ} (c : Content) → length (c .payload) ≡ w .p → Due w o s i c → DueAt i (packetOf c)
+  due-content : {i : ℕ} (c : Content) → Whole (w .p) c → Due w o s i c → DueAt i (packetOf c)
   due-content c size d = let e = content-from (w .p) c size in (rw e d, ap packetOf e)
 
   -- the media packet offered
-  media-due : (p : Port) → o .port ≡ p → (i : ℕ) (x : Packet) → Theory.media i x ≡ seenOn w p (o .datagram) → length (contentOn p (o .datagram) .payload) ≡ w .p → DueAt i x
+  media-due : (p : Port) → o .port ≡ p → (i : ℕ) (x : Packet) → Theory.media i x ≡ seenOn w p (o .datagram) → Whole (w .p) (contentOn p (o .datagram)) → DueAt i x
   media-due mediaPort e i x q size =
       let a : i ≡ position w (sequenceNumber (o .datagram)) = cc in
       let b : x ≡ packetOf (contentOf (o .datagram)) = cc in
@@ -108,8 +106,8 @@ module _ (o : Offer) (w : Window) (s : Store) (M : Moved (seen w o) (contentOn (
   media-due rowPort e i x q size = absurd (not-check q)
 
   -- the parity packet offered
-  parity-usable : (p : Port) → o .port ≡ p → (k : ℕ × ℕ) (c : Content) → Theory.check k c ≡ seenOn w p (o .datagram) → length (contentOn p (o .datagram) .payload) ≡ w .p
-      → Usable w o s (k .0) (k .1) c × (length (c .payload) ≡ w .p)
+  parity-usable : (p : Port) → o .port ≡ p → (k : ℕ × ℕ) (c : Content) → Theory.check k c ≡ seenOn w p (o .datagram) → Whole (w .p) (contentOn p (o .datagram))
+      → Usable w o s (k .0) (k .1) c × Whole (w .p) c
   parity-usable mediaPort e k c q size = absurd (not-check (sym q))
   parity-usable columnPort e k c q size =
       let a : k ≡ (column, snbase (o .datagram)) = cc in
@@ -121,15 +119,15 @@ module _ (o : Offer) (w : Window) (s : Store) (M : Moved (seen w o) (contentOn (
       rw (a, b) (row-offered e, size)
 
   -- a parity packet that was received may be rebuilt by
-  usable : (k : ℕ × ℕ) (c : Content) → R (Theory.check k c) → Usable w o s (k .0) (k .1) c × (length (c .payload) ≡ w .p)
-  usable k c (inl h) = rw (← h .names, ← h .carries) (in-hand (h .at) (h .below) (h .used), length-part (s .parity) (h .at) (rows w) (w .p) (h .below) (M .before .fits .parity-long))
+  usable : (k : ℕ × ℕ) (c : Content) → R (Theory.check k c) → Usable w o s (k .0) (k .1) c × Whole (w .p) c
+  usable k c (inl h) = rw (← h .names, ← h .carries) (in-hand (h .at) (h .below) (h .used), recovery-whole (M .before) (h .at) (h .below))
   usable k c (inr m) = parity-usable (o .port) refl k c (List·Memᴰ·eq-of-singleton m) (M .size)
 
   -- the exclusive-or of a recovery and of the others is that of their contents
-  sum-content : (c : Content) → length (c .payload) ≡ w .p → (f : ℕ → Packet) (g : List ℕ) → ((j : ℕ) → List·Memᴰ j g → packetOf (contentFrom (w .p) (f j)) ≡ f j)
-      → (length (xorContent c (xorContents (w .p) (λ j. contentFrom (w .p) (f j)) g) .payload) ≡ w .p)
+  sum-content : (c : Content) → Whole (w .p) c → (f : ℕ → Packet) (g : List ℕ) → ((j : ℕ) → List·Memᴰ j g → packetOf (contentFrom (w .p) (f j)) ≡ f j)
+      → Whole (w .p) (xorContent c (xorContents (w .p) (λ j. contentFrom (w .p) (f j)) g))
       × (packetOf (xorContent c (xorContents (w .p) (λ j. contentFrom (w .p) (f j)) g)) ≡ xored (packetOf c) (Peel.total xored zeros f g))
-  sum-content c size f g e = (length-zip (c .payload) _ (size ∙ sym long) ∙ size, packet-xor c sum (size ∙ sym long) ∙ ap (xored (packetOf c)) (packet-total (w .p) others g sizes ∙ Peel.total-ext xored zeros _ f g e))
+  sum-content c size f g e = (whole-xor c sum size long, packet-xor c sum size long ∙ ap (xored (packetOf c)) (packet-total (w .p) others g sizes ∙ Peel.total-ext xored zeros _ f g e))
     where
       others : ℕ → Content
       others j = contentFrom (w .p) (f j)
@@ -137,17 +135,17 @@ module _ (o : Offer) (w : Window) (s : Store) (M : Moved (seen w o) (contentOn (
       sum : Content
       sum = xorContents (w .p) others g
 
-      sizes : (j : ℕ) → List·Memᴰ j g → length (others j .payload) ≡ w .p
+      sizes : (j : ℕ) → List·Memᴰ j g → Whole (w .p) (others j)
       sizes j m = length-first (w .p) _
 
-      long : length (sum .payload) ≡ w .p
-      long = length-payloads (w .p) others g sizes
+      long : Whole (w .p) sum
+      long = whole-xors (w .p) others g sizes
 
   -- what the theory knows is due
   known-due : {i : ℕ} {x : Packet} → Theory.Known (code w) R i x → DueAt i x
   known-due {i} {x} (Theory.received (inl e)) =
       let z = slot-is w s i x e in
-      rw (z .2) (due-content (contentAt w s i) (length-part (s .media) i (w .n) (w .p) (z .0) (M .before .fits .media-long)) (stood i (z .0) (mark-one (M .before) i (z .0) (z .1))))
+      rw (z .2) (due-content (contentAt w s i) (content-whole (M .before) i (z .0)) (stood i (z .0) (mark-one (M .before) i (z .0) (z .1))))
   known-due {i} {x} (Theory.received (inr m)) = media-due (o .port) refl i x (List·Memᴰ·eq-of-singleton m) (M .size)
   known-due {i} {x} (Theory.rebuilt k c f a b m e r q) =
       let u = usable k c m in
@@ -169,7 +167,7 @@ made-due o w s based i h e = go (moves (o .datagram) w s based (o .port))
     go (inr M) =
         let n : isMissing (t .marks) i ≡ false = rw e in
         let v = Theory.sound-runs (code w) (Theory.sound-has (code w) (view w s)) (M .runs) in
-        subst (Due w o s i) (content-from (w .p) (contentAt w t i) (length-part (t .media) i (w .n) (w .p) h (M .after .fits .media-long)))
+        subst (Due w o s i) (content-from (w .p) (contentAt w t i) (content-whole (M .after) i h))
         (known-due o w s M (v .known i (packetAt w t i) (slot-present w t i h n)) .0)
 
 -- a packet that was present stays as it was
@@ -186,7 +184,7 @@ made-stays o w s based i h e = go (moves (o .datagram) w s based (o .port))
         let z = slot-is w t i (packetAt w s i) (Theory.runs-keep (code w) (M .runs) i (packetAt w s i) (slot-present w s i h n)) in (
           mark-one (M .after) i h (z .1),
           packet-content (contentAt w t i) (contentAt w s i)
-              (length-part (t .media) i (w .n) (w .p) h (M .after .fits .media-long) ∙ sym (length-part (s .media) i (w .n) (w .p) h (M .before .fits .media-long))) (sym (z .2)),
+              (content-whole (M .after) i h) (content-whole (M .before) i h) (sym (z .2)),
         )
 
 -- ---- reading and writing

@@ -8,12 +8,11 @@ use Prim.Native.Nat.{ℕ, suc, _-_, _<_}
 use native.Mathlib.Decide.{ℕ-discrete}
 use native.Mathlib.Omega.{arith}
 use lib.ListN.{length, replicate, length-replicate}
-use Rattle.xor.specs.Xor.{length-zip}
 use Rattle.sequence.specs.Lists.{upTo, keep, count, headOr}
 use Rattle.window.specs.declared.Window.{Window}
 use Rattle.window.specs.Record.{blank}
 use Rattle.window.specs.Limits.{rows}
-use Rattle.window.specs.Store.{Store, payloadAt, recordAt}
+use Rattle.window.specs.Store.{Store, recordAt}
 use Rattle.window.specs.Group.{isMissing, missing, present}
 use Rattle.window.specs.Order.{inUse, missingAt}
 use Rattle.calls.specs.Content.{Content, xorContents, contentAt, contentOver}
@@ -21,8 +20,8 @@ use Rattle.calls.specs.State.{put, putRecord}
 use Rattle.peel.specs.Group.{total, None, One, one-count, none-count, none-insert}
 use Rattle.peel.specs.Peel.{gone, miss, Keeps, Full, Rebuild, Spoilt, Step}
 use Rattle.guarantee.specs.Ranges.{count-raise, count-keep}
-use Rattle.guarantee.specs.Packets.{xored, zeros, packetOf, packet-xor, packet-total, length-payloads, length-part}
-use Rattle.guarantee.specs.View.{groupOf, code, checkAt, member-lt, packetAt, slotAt, Held, view, slot-present, slot-missing, miss-count, Good}
+use Rattle.guarantee.specs.Packets.{Whole, xored, zeros, packetOf, packet-xor, packet-total, whole-xor, whole-xors}
+use Rattle.guarantee.specs.View.{groupOf, code, checkAt, member-lt, packetAt, slotAt, Held, view, slot-present, slot-missing, miss-count, Good, content-whole}
 use Rattle.guarantee.specs.Changes.{fill-keeps, fill-new, put-filled, put-others, put-held, put-was-held, record-slot, record-held, record-was-held, record-same, record-other, record-good}
 
 -- ---- the one missing member of a group
@@ -70,12 +69,12 @@ pub record Solved (w : Window) (s : Store) (g : List ℕ) (v : Content) (i : ℕ
   pub below : i < w .n
   pub empty : isMissing (s .marks) i ≡ true
   pub rest : (j : ℕ) → List·Memᴰ j (left ++ right) → slotAt w s j ≡ some (packetAt w s j)
-  pub size : length (contentOver w s g v .payload) ≡ w .p
+  pub size : Whole (w .p) (contentOver w s g v)
   pub adds : packetOf (contentOver w s g v) ≡ xored (packetOf v) (total xored zeros (packetAt w s) (left ++ right))
 
 module _ {w : Window} {a u : ℕ} {s : Store} (G : Good w a u s) where
   -- the parts of the group around the one missing
-  solved-at : (g : List ℕ) → ((j : ℕ) → List·Memᴰ j g → j < w .n) → (v : Content) → length (v .payload) ≡ w .p → (o : One (isMissing (s .marks)) g) → Solved w s g v (o .at)
+  solved-at : (g : List ℕ) → ((j : ℕ) → List·Memᴰ j g → j < w .n) → (v : Content) → Whole (w .p) v → (o : One (isMissing (s .marks)) g) → Solved w s g v (o .at)
   solved-at g within v hp o = record {
     left = o .left;
     right = o .right;
@@ -83,8 +82,8 @@ module _ {w : Window} {a u : ℕ} {s : Store} (G : Good w a u s) where
     below = within (o .at) (inside (o .at) (Memᴰ·append-right (o .left) (List·Memᴰ·head refl)));
     empty = o .marked;
     rest = λ j m. slot-present w s j (inner j m) (o .rest j m);
-    size = length-zip (v .payload) _ (hp ∙ sym long) ∙ hp;
-    adds = packet-xor v held (hp ∙ sym long) ∙ ap (xored (packetOf v)) (packet-total (w .p) (contentAt w s) (present (s .marks) g) sizes ∙ ap (total xored zeros (packetAt w s)) left-over);
+    size = whole-xor v held hp long;
+    adds = packet-xor v held hp long ∙ ap (xored (packetOf v)) (packet-total (w .p) (contentAt w s) (present (s .marks) g) sizes ∙ ap (total xored zeros (packetAt w s)) left-over);
   }
     where
       held : Content
@@ -99,14 +98,14 @@ module _ {w : Window} {a u : ℕ} {s : Store} (G : Good w a u s) where
       inner : (j : ℕ) → List·Memᴰ j (o .left ++ o .right) → j < w .n
       inner j m = within j (inside j (mem-insert j (o .left) (o .at) (o .right) m))
 
-      sizes : (j : ℕ) → List·Memᴰ j (present (s .marks) g) → length (payloadAt w s j) ≡ w .p
-      sizes j m = length-part (s .media) j (w .n) (w .p) (inner j (subst (List·Memᴰ j) left-over m)) (G .fits .media-long)
+      sizes : (j : ℕ) → List·Memᴰ j (present (s .marks) g) → Whole (w .p) (contentAt w s j)
+      sizes j m = content-whole G j (inner j (subst (List·Memᴰ j) left-over m))
 
-      long : length (held .payload) ≡ w .p
-      long = length-payloads (w .p) (contentAt w s) (present (s .marks) g) sizes
+      long : Whole (w .p) held
+      long = whole-xors (w .p) (contentAt w s) (present (s .marks) g) sizes
 
   -- a group with one member missing is solved
-  pub solved : (g : List ℕ) → ((j : ℕ) → List·Memᴰ j g → j < w .n) → (v : Content) → length (v .payload) ≡ w .p → (i : ℕ) → missing (s .marks) g ≡ i ∷ [] → Solved w s g v i
+  pub solved : (g : List ℕ) → ((j : ℕ) → List·Memᴰ j g → j < w .n) → (v : Content) → Whole (w .p) v → (i : ℕ) → missing (s .marks) g ≡ i ∷ [] → Solved w s g v i
   solved g within v hp i e =
       let f = isMissing (s .marks) in
       let o : One f g = one-count f g (count-keep f g ∙ ap length e) in

@@ -18,6 +18,10 @@ use Rattle.calls.specs.Content.{Content, xorContent, xorContents}
 abbrev pub cells : Content → List ℕ
 cells c = c .timestamp ∷ c .payload
 
+-- a content of p payload bytes
+abbrev pub Whole : ℕ → Content → Type 0
+Whole p c = length (c .payload) ≡ p
+
 -- a packet: a number at every place
 abbrev pub Packet : Type 0
 Packet = ℕ → ℕ
@@ -34,9 +38,10 @@ zeros = λ n. 0
 abbrev pub packetOf : Content → Packet
 packetOf c j = getD (cells c) j 0
 
--- two contents of one length are equal if their packets are
-pub packet-content : (c e : Content) → length (c .payload) ≡ length (e .payload) → packetOf c ≡ packetOf e → c ≡ e
-packet-content c e l q =
+-- two contents of p bytes are equal if their packets are
+pub packet-content : {p : ℕ} (c e : Content) → Whole p c → Whole p e → packetOf c ≡ packetOf e → c ≡ e
+packet-content c e hc he q =
+    let l : length (c .payload) ≡ length (e .payload) = hc ∙ sym he in
     let z : c .timestamp ≡ e .timestamp = ap (λ (x : Packet). x zero) q in
     let y : c .payload ≡ e .payload = ext-getD 0 (c .payload) (e .payload) l (λ j h. ap (λ (x : Packet). x (suc j)) q) in
     λ k. record { timestamp = z k; payload = y k }
@@ -61,7 +66,7 @@ cells-from [] = refl
 cells-from (b ∷ l) = ap (λ k. b ∷ k) (cells-from l)
 
 -- a content is of its packet
-pub content-from : (p : ℕ) (c : Content) → length (c .payload) ≡ p → contentFrom p (packetOf c) ≡ c
+pub content-from : (p : ℕ) (c : Content) → Whole p c → contentFrom p (packetOf c) ≡ c
 content-from p c e = rw (← e) (ap (λ l. record { timestamp = c .timestamp; payload = l }) (cells-from (c .payload)))
 
 -- a cell of an exclusive-or of lists of one length, also past the end
@@ -73,8 +78,12 @@ cell-zip (x ∷ a) (y ∷ b) l zero = refl
 cell-zip (x ∷ a) (y ∷ b) l (suc j) = cell-zip a b (omega (arith, l)) j
 
 -- the packet of an exclusive-or is the exclusive-or of the packets
-pub packet-xor : (c e : Content) → length (c .payload) ≡ length (e .payload) → packetOf (xorContent c e) ≡ xored (packetOf c) (packetOf e)
-packet-xor c e l = fun-ext (cell-zip (cells c) (cells e) (ap suc l))
+pub packet-xor : {p : ℕ} (c e : Content) → Whole p c → Whole p e → packetOf (xorContent c e) ≡ xored (packetOf c) (packetOf e)
+packet-xor c e hc he = fun-ext (cell-zip (cells c) (cells e) (ap suc (hc ∙ sym he)))
+
+-- and has as many bytes
+pub whole-xor : {p : ℕ} (c e : Content) → Whole p c → Whole p e → Whole p (xorContent c e)
+whole-xor c e hc he = length-zip (c .payload) (e .payload) (hc ∙ sym he) ∙ hc
 
 -- a cell of zeros, also past the end
 cell-zeros : (p j : ℕ) → _≡_ {A = ℕ} (getD (replicate p 0) j 0) 0
@@ -83,21 +92,18 @@ cell-zeros (suc p) zero = refl
 cell-zeros (suc p) (suc j) = cell-zeros p j
 
 module _ (p : ℕ) (content : ℕ → Content) where
-  -- the exclusive-or of payloads of p bytes has p bytes
-  pub length-payloads : (g : List ℕ) → ((j : ℕ) → List·Memᴰ j g → length (content j .payload) ≡ p) → length (xorContents p content g .payload) ≡ p
-  length-payloads [] h = length-replicate p 0
-  length-payloads (j ∷ g) h =
-      let r = length-payloads g (λ i m. h i (List·Memᴰ·tail m)) in
-      let e = h j (List·Memᴰ·head refl) in
-      length-zip (content j .payload) (xorContents p content g .payload) (e ∙ sym r) ∙ e
+  -- so has the exclusive-or of a list of them
+  pub whole-xors : (g : List ℕ) → ((j : ℕ) → List·Memᴰ j g → Whole p (content j)) → Whole p (xorContents p content g)
+  whole-xors [] h = length-replicate p 0
+  whole-xors (j ∷ g) h = whole-xor (content j) (xorContents p content g) (h j (List·Memᴰ·head refl)) (whole-xors g (λ i m. h i (List·Memᴰ·tail m)))
 
   -- the exclusive-or over a group is the theory's
-  pub packet-total : (g : List ℕ) → ((j : ℕ) → List·Memᴰ j g → length (content j .payload) ≡ p)
+  pub packet-total : (g : List ℕ) → ((j : ℕ) → List·Memᴰ j g → Whole p (content j))
       → packetOf (xorContents p content g) ≡ total xored zeros (λ j. packetOf (content j)) g
   packet-total [] h = fun-ext (cell-zeros (suc p))
   packet-total (j ∷ g) h =
       let rest : (i : ℕ) → List·Memᴰ i g → length (content i .payload) ≡ p = λ i m. h i (List·Memᴰ·tail m) in
-      packet-xor (content j) (xorContents p content g) (h j (List·Memᴰ·head refl) ∙ sym (length-payloads g rest))
+      packet-xor (content j) (xorContents p content g) (h j (List·Memᴰ·head refl)) (whole-xors g rest)
       ∙ ap (xored (packetOf (content j))) (packet-total g rest)
 
 -- ---- parts of p elements, one after the other

@@ -22,8 +22,8 @@ use Rattle.calls.specs.Settle.{ready, rank, better, nextBelow, next, releaseSpe
 use Rattle.peel.specs.Group.{count-none}
 use Rattle.peel.specs.Peel.{gone, miss, Steps, stop, go-on}
 use Rattle.peel.specs.Rest.{Still, Engine, steps-then}
-use Rattle.guarantee.specs.Packets.{length-part}
-use Rattle.guarantee.specs.View.{code, checkAt, member-lt, Held, view, miss-count, Good, Missing, held-count}
+use Rattle.guarantee.specs.Packets.{Whole}
+use Rattle.guarantee.specs.View.{code, checkAt, member-lt, Held, view, miss-count, Good, recovery-whole, Missing, held-count}
 use Rattle.guarantee.specs.Changes.{put-good}
 use Rattle.guarantee.specs.Moves.{single, Solved, solved, rebuiltIn, rebuild-full, step-rebuild, freed, freed-other, freed-same, freed-fewer, freed-good, step-free}
 
@@ -210,8 +210,8 @@ round-by {w} {a} {u} {s} {b} G r hr used one c rise = subst (Round w b (at w a u
     v : Content
     v = recoveryAt w s r
 
-    size : length (v .payload) ≡ w .p
-    size = length-part (s .parity) r (rows w) (w .p) hr (G .fits .parity-long)
+    size : Whole (w .p) v
+    size = recovery-whole G r hr
 
     i : ℕ
     i = headOr 0 (missingAt w s r)

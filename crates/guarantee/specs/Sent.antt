@@ -5,7 +5,6 @@ use mathlib.Core.List.{List}
 use Prim.Native.Nat.{ℕ, _<_, _≤_}
 use native.Mathlib.Nat.{mod-lt}
 use native.Mathlib.Omega.{arith}
-use lib.ListN.{length}
 use lib.Pow.{pow-pos}
 use Rattle.answer.specs.First.{None}
 use Rattle.sequence.specs.Wrap.{numberAt, ahead-numberAt}
@@ -20,7 +19,7 @@ use Rattle.calls.specs.Content.{Content, xorContents}
 use Rattle.calls.specs.Accept.{contentOf, recoveryOf}
 use Rattle.peel.specs.Group as Peel
 use Rattle.peel.specs.Peel as Theory
-use Rattle.guarantee.specs.Packets.{Packet, xored, zeros, packetOf, packet-total, length-payloads}
+use Rattle.guarantee.specs.Packets.{Whole, Packet, xored, zeros, packetOf, packet-total, whole-xors}
 use Rattle.guarantee.specs.View.{Limits, groupOf, group-lt, code}
 use Rattle.guarantee.specs.Wire.{media-number, media-content, media-faultless, parity-snbase, parity-recovery, parity-faultless, timestamps-lt}
 use Rattle.guarantee.specs.Offers.{mediaSeen, paritySeen}
@@ -51,8 +50,8 @@ pub position-number : {w : Window} → Limits w → (i : ℕ) → i < w .n → p
 position-number {w} L i h = ahead-numberAt width (w .base) (omega (arith, L .based)) i (omega (arith, L .set-up .n-high))
 
 -- the recovery of a group over the stretch has P bytes, and is the theory's sum
-pub recovery-size : {w : Window} {t : Stretch} → Fills w t → (k : ℕ × ℕ) → inside w (k .0) (k .1) ≡ true → length (xorContents (w .p) t (groupOf w k) .payload) ≡ w .p
-recovery-size {w} {t} F k h = length-payloads (w .p) t (groupOf w k) (λ j m. F .size j (group-lt w (k .0) (k .1) h j m))
+pub recovery-size : {w : Window} {t : Stretch} → Fills w t → (k : ℕ × ℕ) → inside w (k .0) (k .1) ≡ true → Whole (w .p) (xorContents (w .p) t (groupOf w k))
+recovery-size {w} {t} F k h = whole-xors (w .p) t (groupOf w k) (λ j m. F .size j (group-lt w (k .0) (k .1) h j m))
 
 pub recovery-sum : {w : Window} {t : Stretch} → Fills w t → (k : ℕ × ℕ) → inside w (k .0) (k .1) ≡ true → packetOf (xorContents (w .p) t (groupOf w k)) ≡ Peel.total xored zeros (sent t) (groupOf w k)
 recovery-sum {w} {t} F k h = packet-total (w .p) t (groupOf w k) (λ j m. F .size j (group-lt w (k .0) (k .1) h j m))

@@ -13,8 +13,8 @@ use Rattle.sequence.specs.Lists.{and-split as both}
 use Rattle.sequence.specs.Wrap.{numberAt}
 use Rattle.rtp.specs.Fec.{column, row, snbase}
 use Rattle.window.specs.declared.Window.{Window}
-use Rattle.window.specs.Limits.{width, rows, room}
-use Rattle.window.specs.Store.{Store, payloadAt}
+use Rattle.window.specs.Limits.{width, room}
+use Rattle.window.specs.Store.{Store}
 use Rattle.window.specs.Group.{group, inside, isMissing}
 use Rattle.calls.specs.Content.{Content, xorContents, contentAt, recoveryAt}
 use Rattle.calls.specs.State.{recount}
@@ -24,8 +24,8 @@ use Rattle.peel.specs.Peel as Theory
 use Rattle.peel.specs.Rest.{Still}
 use Rattle.peel.specs.Theorem.{right, stopping, missing-iff, same, run-inv}
 use Rattle.guarantee.specs.Ranges.{decide, keep-ext, count-keep}
-use Rattle.guarantee.specs.Packets.{Packet, packet-content, length-part}
-use Rattle.guarantee.specs.View.{Limits, groupOf, group-lt, code, checkAt, packetAt, view, slot-present, miss-mark, Good, mark-one}
+use Rattle.guarantee.specs.Packets.{Packet, packet-content}
+use Rattle.guarantee.specs.View.{Limits, groupOf, group-lt, code, checkAt, packetAt, view, slot-present, miss-mark, Good, content-whole, recovery-whole, mark-one}
 use Rattle.guarantee.specs.Recount.{fills-on, holds-on, unaltered-on}
 use Rattle.guarantee.specs.Order.{limits, stands}
 use Rattle.guarantee.specs.Accepted.{rests}
@@ -87,15 +87,11 @@ module _ {w : Window} {a u : ℕ} {s : Store} {t : Stretch} {offers : List Offer
       outside : (i : ℕ) → (S i ≡ true → ⊥) → S i ≡ false
       outside i n = ⊎-elim (λ e. absurd (n e)) (λ e. e) (decide (S i))
 
-  -- a payload that is kept has P bytes
-  size-at : (i : ℕ) → i < w .n → length (payloadAt w (y .store) i) ≡ w .p
-  size-at i h = length-part (y .store .media) i (w .n) (w .p) h (arrived .fine .order .good .fits .media-long)
-
   -- what is present is what was sent
   present-sent : (i : ℕ) → i < w .n → markAt (y .store) i ≡ 1 → contentAt w (y .store) i ≡ t i
   present-sent i h e =
       let n : isMissing (y .store .marks) i ≡ false = rw e in
-      packet-content (contentAt w (y .store) i) (t i) (size-at i h ∙ sym (R .fills .size i h))
+      packet-content (contentAt w (y .store) i) (t i) (content-whole (arrived .fine .order .good) i h) (R .fills .size i h)
       (right (code w) (sent t) (inv .sound) unaltered i (packetAt w (y .store) i) (slot-present w (y .store) i h n))
 
   -- demand 3
@@ -118,7 +114,7 @@ module _ {w : Window} {a u : ℕ} {s : Store} {t : Stretch} {offers : List Offer
         let i = arrived .fine .order .good .shaped r h e .within in
         let m : Got w s (counted w offers) (Theory.check k c) = inv .sound .kept k c (record { at = r; below = h; used = e; names = refl; carries = refl }) in
         packet-content c (xorContents (w .p) t (groupOf w k))
-        (length-part (y .store .parity) r (rows w) (w .p) h (arrived .fine .order .good .fits .parity-long) ∙ sym (recovery-size (R .fills) k i))
+        (recovery-whole (arrived .fine .order .good) r h) (recovery-size (R .fills) k i)
         (unaltered (Theory.check k c) m .0 ∙ sym (recovery-sum (R .fills) k i));
   }
 

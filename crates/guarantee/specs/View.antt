@@ -22,7 +22,7 @@ use Rattle.xor.specs.Laws.{packet}
 use Rattle.peel.specs.Peel.{Code, View, gone, miss}
 use Rattle.peel.specs.Group as Peel
 use Rattle.guarantee.specs.Ranges.{all-of, count-keep, keep-ext}
-use Rattle.guarantee.specs.Packets.{Packet, xored, zeros, packetOf}
+use Rattle.guarantee.specs.Packets.{Whole, Packet, xored, zeros, packetOf, length-part}
 
 -- ---- a window within its limits, and the groups in it
 
@@ -140,6 +140,14 @@ pub record Good (w : Window) (a u : ℕ) (s : Store) : Type 0 where
 -- of every check in hand at least m members are missing
 pub record Missing (m : ℕ) (w : Window) (s : Store) : Type 0 where
   pub least : (r : ℕ) → r < rows w → inUse w s r ≡ true → m ≤ length (missingAt w s r)
+
+-- what is kept at a position has P bytes
+pub content-whole : {w : Window} {a u : ℕ} {s : Store} → Good w a u s → (i : ℕ) → i < w .n → Whole (w .p) (contentAt w s i)
+content-whole {w} {s = s} G i h = length-part (s .media) i (w .n) (w .p) h (G .fits .media-long)
+
+-- and so has what a record holds
+pub recovery-whole : {w : Window} {a u : ℕ} {s : Store} → Good w a u s → (r : ℕ) → r < rows w → Whole (w .p) (recoveryAt w s r)
+recovery-whole {w} {s = s} G r h = length-part (s .parity) r (rows w) (w .p) h (G .fits .parity-long)
 
 -- a mark that is not 0 is 1
 pub mark-one : {w : Window} {a u : ℕ} {s : Store} → Good w a u s → (i : ℕ) → i < w .n → isMissing (s .marks) i ≡ false → getD (s .marks) i 0 ≡ 1

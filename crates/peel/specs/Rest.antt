@@ -2,8 +2,10 @@
 use mathlib.Core.Path.{_≡_, refl, sym, ap, fun-ext, _∙_}
 use mathlib.Core.Logic.{_≢_, _⊎_, inl, inr, ⊎-elim}
 use mathlib.Core.Bool.{Bool, true, false}
+use mathlib.Core.List.{List, [], _∷_, List·Memᴰ, List·Memᴰ·head, List·Memᴰ·tail}
 use Prim.Native.Nat.{ℕ, zero, suc, _+_, _≤_, _<_}
 use native.Mathlib.Omega.{arith}
+use lib.ListN.{length}
 use Rattle.peel.specs.Group.{count, count-one}
 use Rattle.peel.specs.Peel.{Code, View, gone, miss, there, miss-keeps, Rebuild, Step, Steps, stop, go-on}
 
@@ -98,3 +100,14 @@ module _ {K C X : Type 0} (P : Code K C X) {A : Type 0} (E : Engine P A) where
   rounds-spend (suc b) a h = ⊎-elim
       (λ r. inl (let e = idle (suc b) a (r .0) in let d : E .did (rounds (E .one) b (E .one a)) ≡ E .did a = ap (E .did) e in omega (arith, d)))
       (λ r. ⊎-elim (λ l. inl (omega (arith, l, r .1))) (λ l. inr (omega (arith, l, r .0))) (rounds-spend b (E .one a) (E .keeps a h))) (E .work a h)
+
+  -- of calls with these budgets, one after the other, some call does less than its budget
+  pub data Quiet : List ℕ → A → Type 0 where
+    now : {b : ℕ} {bs : List ℕ} {a : A} → E .did (rounds (E .one) b a) < E .did a + b → Quiet (b ∷ bs) a
+    later : {b : ℕ} {bs : List ℕ} {a : A} → Quiet bs (rounds (E .one) b a) → Quiet (b ∷ bs) a
+
+  -- one call more than there is to spend is enough, if none has a budget of nothing
+  pub budgets-quiet : (bs : List ℕ) (a : A) → E .fit a → ((b : ℕ) → List·Memᴰ b bs → 0 < b) → E .left a < length bs → Quiet bs a
+  budgets-quiet [] a h some l = absurd (omega arith)
+  budgets-quiet (b ∷ bs) a h some l = ⊎-elim now
+      (λ q. later (budgets-quiet bs (rounds (E .one) b a) (rounds-keep b a h) (λ c m. some c (List·Memᴰ·tail m)) (omega (arith, q, some b (List·Memᴰ·head refl))))) (rounds-spend b a h)
