@@ -12,7 +12,8 @@ use Rattle.peel.specs.Group.{total, total-ext, total-out, solve, count, 
 
 -- ---- codes, offers and receivers
 
--- a parity code: the positions that a check covers, the packet that it carries their xor as, and whether a rebuilt packet fits it
+-- a parity code: which positions a check covers, which packet it carries (sent unaltered, the xor of theirs), whether a rebuilt packet fits
+-- it, and the xor of packets with its laws
 pub record Code (K C X : Type 0) : Type 0 where
   pub group : K → List ℕ
   pub value : C → X

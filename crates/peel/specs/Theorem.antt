@@ -55,12 +55,10 @@ module _ {K C X : Type 0} (P : Code K C X) where
   pub same : {R Q : Set (Offer K C X)} {s t : View K C X} → Inv P R s → Still P s → Inv P Q t → Still P t → Covered R Q → Covered Q R → (i : ℕ) → miss s i ≡ miss t i
   same {s = s} {t = t} v r w q sub sup i = agree (miss s i) (miss t i) (more w q (v .sound) sub i) (more v r (w .sound) sup i)
 
-  -- from any receiver, whatever is taken in and whenever steps are made: what is missing at rest lies in a stopping set of all that it
-  -- had and was offered
-  module _ (sent : ℕ → X) {s t : View K C X} {os : List (Offer K C X)} (ok : (p : Offer K C X) → Plus (Has s) os p → Unaltered P sent p) (r : Runs P s os t) where
-    -- nothing was lost
-    pub run-inv : Inv P (Plus (Has s) os) t
-    run-inv = inv-runs P sent ok (inv-has P s) r
+  -- from any receiver, whatever is taken in and whenever steps are made, nothing is lost of what it had and was offered, if all of that is
+  -- unaltered; so at rest the theorems above hold of it
+  pub run-inv : (sent : ℕ → X) {s t : View K C X} {os : List (Offer K C X)} → ((p : Offer K C X) → Plus (Has s) os p → Unaltered P sent p) → Runs P s os t → Inv P (Plus (Has s) os) t
+  run-inv sent {s} ok r = inv-runs P sent ok (inv-has P s) r
 
   -- two engines, each at its end from one receiver that has only unaltered packets, leave the same packets
   pub engines-agree : (sent : ℕ → X) (s t u : View K C X) → ((p : Offer K C X) → Has s p → Unaltered P sent p)
