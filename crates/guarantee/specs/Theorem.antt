@@ -53,57 +53,12 @@ module _ {w : Window} {a u : ℕ} {s : Store} {t : Stretch} {offers : List Offer
   inv : Theory.Inv (code w) (Got w s (counted w offers)) (view w (y .store))
   inv = run-inv (code w) (sent t) unaltered (arrived .runs)
 
-  -- and the store is at rest
-  still : Still (code w) (view w (y .store))
-  still = rests (arrived .fine .order .good) (arrived .fine .order .waits)
-
-  -- what is missing is hidden
-  missing-hidden : Hidden w (receivedFrom w s offers) (λ i. ltb i (w .n) && Theory.miss (view w (y .store)) i)
-  missing-hidden = record {
-    of-stretch = λ i e. ltb-true i (w .n) (both (ltb i (w .n)) (Theory.miss (view w (y .store)) i) e .0);
-    unreceived = λ i e m. let b = both (ltb i (w .n)) (Theory.miss (view w (y .store)) i) e in
-        let x = in-media L (R .fills) (R .ordered .good) (R .unaltered) i (ltb-true i (w .n) (b .0)) m in
-        true≢false (sym (b .1) ∙ inv .all (Theory.media i (x .0)) (x .1));
-    never-one = λ stream snbase m e. let c = in-check L (R .fills) (R .ordered .good) (R .unaltered) stream snbase m in
-        let h = check-in L (R .fills) (R .ordered .good) (R .unaltered) (stream, snbase) (c .0) (c .1) in
-        stopping (code w) inv still .never-one (stream, snbase) (c .0) (c .1)
-        (count-keep (Theory.miss (view w (y .store))) (group w stream snbase)
-        ∙ ap length (keep-ext (Theory.miss (view w (y .store))) kept (group w stream snbase) (inner stream snbase (h .0))) ∙ e);
-  }
-    where
-      kept : ℕ → Bool
-      kept i = ltb i (w .n) && Theory.miss (view w (y .store)) i
-
-      inner : (stream snbase : ℕ) → inside w stream snbase ≡ true → (i : ℕ) → List·Memᴰ i (group w stream snbase) → Theory.miss (view w (y .store)) i ≡ kept i
-      inner stream snbase h i m = rw (lt-ltb i (w .n) (group-lt w stream snbase h i m))
-
-  -- what is hidden is a stopping set of the theory
-  hidden-stopping : (S : ℕ → Bool) → Hidden w (receivedFrom w s offers) S → Theory.Stopping (code w) (Got w s (counted w offers)) S
-  hidden-stopping S h = record {
-    unreceived = λ i x m. outside i (λ e. h .unreceived i e (media-in L (R .fills) (R .ordered .good) (R .unaltered) i x m .1));
-    never-one = λ k x m e. h .never-one (k .0) (k .1) (check-in L (R .fills) (R .ordered .good) (R .unaltered) k x m .1) (sym (count-keep S (groupOf w k)) ∙ e);
-  }
-    where
-      outside : (i : ℕ) → (S i ≡ true → ⊥) → S i ≡ false
-      outside i n = ⊎-elim (λ e. absurd (n e)) (λ e. e) (decide (S i))
-
   -- what is present is what was sent
   present-sent : (i : ℕ) → i < w .n → markAt (y .store) i ≡ 1 → contentAt w (y .store) i ≡ t i
   present-sent i h e =
       let n : isMissing (y .store .marks) i ≡ false = rw e in
       packet-content (contentAt w (y .store) i) (t i) (content-whole (arrived .fine .order .good) i h) (R .fills .size i h)
       (right (code w) (sent t) (inv .sound) unaltered i (packetAt w (y .store) i) (slot-present w (y .store) i h n))
-
-  -- demand 3
-  conclusions : Demand3 w t (receivedFrom w s offers) (y .store)
-  conclusions = record {
-    mark = λ i h. ⊎-elim (λ e. inl (eqb-true (markAt (y .store) i) 0 e)) (λ e. inr (mark-one (arrived .fine .order .good) i h e)) (decide (isMissing (y .store .marks) i));
-    present = present-sent;
-    missing = λ i h. (
-      λ e. (λ j. ltb j (w .n) && Theory.miss (view w (y .store)) j, missing-hidden, rw (lt-ltb i (w .n) h, miss-mark w (y .store) i h, e)),
-      λ q. eqb-true (markAt (y .store) i) 0 (sym (miss-mark w (y .store) i h) ∙ missing-iff (code w) inv still i .1 (q .0, hidden-stopping (q .0) (q .1), q .2)),
-    );
-  }
 
   -- and all that the store holds is unaltered again
   holds-again : Holds w t (y .store)
@@ -128,6 +83,53 @@ module _ {w : Window} {a u : ℕ} {s : Store} {t : Stretch} {offers : List Offer
     holds = holds-on w (arrived .fine .present) (arrived .fine .used) t holds-again;
   }
 
+  -- what is hidden is a stopping set of the theory
+  hidden-stopping : (S : ℕ → Bool) → Hidden w (receivedFrom w s offers) S → Theory.Stopping (code w) (Got w s (counted w offers)) S
+  hidden-stopping S h = record {
+    unreceived = λ i x m. outside i (λ e. h .unreceived i e (media-in L (R .fills) (R .ordered .good) (R .unaltered) i x m .1));
+    never-one = λ k x m e. h .never-one (k .0) (k .1) (check-in L (R .fills) (R .ordered .good) (R .unaltered) k x m .1) (sym (count-keep S (groupOf w k)) ∙ e);
+  }
+    where
+      outside : (i : ℕ) → (S i ≡ true → ⊥) → S i ≡ false
+      outside i n = ⊎-elim (λ e. absurd (n e)) (λ e. e) (decide (S i))
+
+  -- where the store is at rest
+  module _ (still : Still (code w) (view w (y .store))) where
+    -- what is missing is hidden
+    missing-hidden : Hidden w (receivedFrom w s offers) (λ i. ltb i (w .n) && Theory.miss (view w (y .store)) i)
+    missing-hidden = record {
+      of-stretch = λ i e. ltb-true i (w .n) (both (ltb i (w .n)) (Theory.miss (view w (y .store)) i) e .0);
+      unreceived = λ i e m. let b = both (ltb i (w .n)) (Theory.miss (view w (y .store)) i) e in
+          let x = in-media L (R .fills) (R .ordered .good) (R .unaltered) i (ltb-true i (w .n) (b .0)) m in
+          true≢false (sym (b .1) ∙ inv .all (Theory.media i (x .0)) (x .1));
+      never-one = λ stream snbase m e. let c = in-check L (R .fills) (R .ordered .good) (R .unaltered) stream snbase m in
+          let h = check-in L (R .fills) (R .ordered .good) (R .unaltered) (stream, snbase) (c .0) (c .1) in
+          stopping (code w) inv still .never-one (stream, snbase) (c .0) (c .1)
+          (count-keep (Theory.miss (view w (y .store))) (group w stream snbase)
+          ∙ ap length (keep-ext (Theory.miss (view w (y .store))) kept (group w stream snbase) (inner stream snbase (h .0))) ∙ e);
+    }
+      where
+        kept : ℕ → Bool
+        kept i = ltb i (w .n) && Theory.miss (view w (y .store)) i
+
+        inner : (stream snbase : ℕ) → inside w stream snbase ≡ true → (i : ℕ) → List·Memᴰ i (group w stream snbase) → Theory.miss (view w (y .store)) i ≡ kept i
+        inner stream snbase h i m = rw (lt-ltb i (w .n) (group-lt w stream snbase h i m))
+
+    -- demand 3
+    conclusions : Demand3 w t (receivedFrom w s offers) (y .store)
+    conclusions = record {
+      mark = λ i h. ⊎-elim (λ e. inl (eqb-true (markAt (y .store) i) 0 e)) (λ e. inr (mark-one (arrived .fine .order .good) i h e)) (decide (isMissing (y .store .marks) i));
+      present = present-sent;
+      missing = λ i h. (
+        λ e. (λ j. ltb j (w .n) && Theory.miss (view w (y .store)) j, missing-hidden, rw (lt-ltb i (w .n) h, miss-mark w (y .store) i h, e)),
+        λ q. eqb-true (markAt (y .store) i) 0 (sym (miss-mark w (y .store) i h) ∙ missing-iff (code w) inv still i .1 (q .0, hidden-stopping (q .0) (q .1), q .2)),
+      );
+    }
+
+  -- as it is after every offer
+  at-rest : Still (code w) (view w (y .store))
+  at-rest = rests (arrived .fine .order .good) (arrived .fine .order .waits)
+
 -- ---- from any start
 
 -- demand 3 from any start
@@ -137,7 +139,7 @@ demand3-from x t offers G =
     let A = arrives x refl R in
     record {
       set-up = rw (A .fine .window);
-      demand = conclusions R A;
+      demand = conclusions R A (at-rest R A);
       start = rw (A .fine .window) (start-again R A);
     }
 
@@ -170,8 +172,8 @@ covered {w} L F E G H ok ko sub = record {
 
 -- from any starts of the same set-up numbers
 pub demand3-same-from : ClaimSameFrom
-demand3-same-from x y t u offers others G H e names i h = go (conclusions R A .mark i h)
-    (conclusions Q B .mark i h)
+demand3-same-from x y t u offers others G H e names i h = go (conclusions R A (at-rest R A) .mark i h)
+    (conclusions Q B (at-rest Q B) .mark i h)
   where
     w : Window
     w = x .window
@@ -194,8 +196,8 @@ demand3-same-from x y t u offers others G H e names i h = go (conclusions R A .m
     missing : isMissing (run x offers .store .marks) i ≡ isMissing (run y others .store .marks) i
     missing =
         sym (miss-mark w (run x offers .store) i h)
-        ∙ same (code w) (inv R A) (still R A)
-        (inv Q B) (still Q B)
+        ∙ same (code w) (inv R A) (at-rest R A)
+        (inv Q B) (at-rest Q B)
         (covered (L R A) (R .fills) (Q .fills) (R .ordered .good) (Q .ordered .good) (R .unaltered) (Q .unaltered) (λ z. packets z .0))
         (covered (L R A) (Q .fills) (R .fills) (Q .ordered .good) (R .ordered .good) (Q .unaltered) (R .unaltered) (λ z. packets z .1)) i
         ∙ miss-mark w (run y others .store) i h
