@@ -14,7 +14,7 @@ use Rattle.rtp.specs.Faults.{mediaTests, parityTests, noRow}
 use Rattle.window.specs.declared.Record.{Record}
 use Rattle.window.specs.declared.Window.{Window}
 use Rattle.window.specs.Record.{blank}
-use Rattle.window.specs.Limits.{leastMissing, rows, room, setUpTests}
+use Rattle.window.specs.Limits.{leastMissing, rows, parityRoom, setUpTests}
 use Rattle.window.specs.Store.{Store, shortStore, recordAt}
 use Rattle.window.specs.Group.{position, group, inside, isMissing, missing}
 use Rattle.window.specs.Order.{inUse, disorder}
@@ -109,7 +109,7 @@ parityPlaceTests w stream g s =
     (13, not (inside w stream (snbase g)))
     ∷ (14, any (holdsSame w s stream g) (upTo (rows w)))
     ∷ (15, any (holds w s stream (snbase g)) (upTo (rows w)))
-    ∷ (16, leb leastMissing (length (missing (s .marks) (group w stream (snbase g)))) && not (ltb (w .«in_use») (room w)))
+    ∷ (16, leb leastMissing (length (missing (s .marks) (group w stream (snbase g)))) && not (ltb (w .«in_use») (parityRoom w)))
     ∷ []
 
 -- the tests of a parity offer on the port of a stream: 1 to 16

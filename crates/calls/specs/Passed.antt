@@ -12,7 +12,7 @@ use Rattle.rtp.specs.Rtp.{rtpHeaderSize, sequenceNumber}
 use Rattle.rtp.specs.Fec.{parityHeaderSize, snbase, dBit, offset, na, offsetOf, naOf}
 use Rattle.rtp.specs.Faults.{noRow, mediaTests, parityTests}
 use Rattle.window.specs.declared.Window.{Window}
-use Rattle.window.specs.Limits.{leastMissing, rows, room}
+use Rattle.window.specs.Limits.{leastMissing, rows, parityRoom}
 use Rattle.window.specs.Store.{Store}
 use Rattle.window.specs.Group.{position, group, inside, isMissing, missing}
 use Rattle.calls.specs.Call.{standingTests, mediaPlaceTests, mediaOfferTests, holds, holdsSame, parityPlaceTests, parityOfferTests, readPlaceTests, readTests, writePlaceTests, writeTests}
@@ -32,7 +32,7 @@ pub record ParityPassed (w : Window) (stream : ℕ) (g : List ℕ) (s : Store) :
   pub permitted : noRow stream (w .l) ≡ false
   pub in-window : inside w stream (snbase g) ≡ true
   pub new : any (holds w s stream (snbase g)) (upTo (rows w)) ≡ false
-  pub has-room : leastMissing ≤ length (missing (s .marks) (group w stream (snbase g))) → w .«in_use» < room w
+  pub has-room : leastMissing ≤ length (missing (s .marks) (group w stream (snbase g))) → w .«in_use» < parityRoom w
 
 -- no refusal of reading out a number applied
 pub record ReadPassed (w : Window) (number : ℕ) (s : Store) (out : List ℕ) : Type 0 where
@@ -95,8 +95,8 @@ parity-passed w stream g s e =
       permitted = or-split (not (eqb (dBit g) stream) || not (eqb (offset g) (offsetOf stream (w .l))) || not (eqb (na g) (naOf stream (w .l) (w .d)))) (noRow stream (w .l)) (wire .1 .1 .1 .1 .1 .1 .0) .1;
       in-window = not-false (inside w stream (snbase g)) (place .0);
       new = place .1 .1 .0;
-      has-room = λ m. ltb-true (w .«in_use») (room w) (not-false (ltb (w .«in_use») (room w))
-          (not-both (leb leastMissing (length (missing (s .marks) (group w stream (snbase g))))) (not (ltb (w .«in_use») (room w))) (place .1 .1 .1 .0) (le-leb leastMissing _ m)));
+      has-room = λ m. ltb-true (w .«in_use») (parityRoom w) (not-false (ltb (w .«in_use») (parityRoom w))
+          (not-both (leb leastMissing (length (missing (s .marks) (group w stream (snbase g))))) (not (ltb (w .«in_use») (parityRoom w))) (place .1 .1 .1 .0) (le-leb leastMissing _ m)));
     }
 
 pub read-passed : (w : Window) (number : ℕ) (s : Store) (out : List ℕ) → first (readTests w number s out) ≡ 0 → ReadPassed w number s out
@@ -131,11 +131,11 @@ module _ (w : Window) (g : List ℕ) (s : Store) (stands : None (standingTests w
 
   -- none applies to parity of a group of the window that is not in hand, if there is room where it has to wait
   pub parity-passes : (stream : ℕ) → None (parityTests stream (w .l) (w .d) (w .p) g) → inside w stream (snbase g) ≡ true → any (holds w s stream (snbase g)) (upTo (rows w)) ≡ false
-      → w .«in_use» < room w → first (parityOfferTests w stream g s) ≡ 0
+      → w .«in_use» < parityRoom w → first (parityOfferTests w stream g s) ≡ 0
   parity-passes stream faultless in-window new has-room =
       first-append (standingTests w s 0 0 ++ parityTests stream (w .l) (w .d) (w .p) g) (parityPlaceTests w stream g s)
       (none-join (standingTests w s 0 0) (parityTests stream (w .l) (w .d) (w .p) g) stands faultless)
-      ∙ none-first (parityPlaceTests w stream g s) (ap not in-window, (unlike, (new, (rw (lt-ltb (w .«in_use») (room w) has-room) (and-false (leb leastMissing (length (missing (s .marks) (group w stream (snbase g)))))), tt))))
+      ∙ none-first (parityPlaceTests w stream g s) (ap not in-window, (unlike, (new, (rw (lt-ltb (w .«in_use») (parityRoom w) has-room) (and-false (leb leastMissing (length (missing (s .marks) (group w stream (snbase g)))))), tt))))
     where
       unlike : any (holdsSame w s stream g) (upTo (rows w)) ≡ false
       unlike = false-any (holdsSame w s stream g) (rows w) (λ r l. rw (any-false (holds w s stream (snbase g)) (rows w) new r l))

@@ -13,7 +13,7 @@ use Rattle.rtp.specs.Rtp.{sequenceNumber}
 use Rattle.rtp.specs.Fec.{column, row, snbase}
 use Rattle.rtp.specs.Faults.{noRow}
 use Rattle.window.specs.declared.Window.{Window}
-use Rattle.window.specs.Limits.{width, room}
+use Rattle.window.specs.Limits.{width, parityRoom}
 use Rattle.window.specs.Store.{Store}
 use Rattle.window.specs.Group.{group, inside}
 use Rattle.calls.specs.Content.{Content, xorContents, contentAt}
@@ -148,7 +148,7 @@ pub record Given (w : Window) (lent : Store) (t : Stretch) (offers : List Offer)
   pub fills : Fills w t
   pub fresh : opened w lent .answer ≡ Done 0
   pub unaltered : (o : Offer) → List·Memᴰ o offers → Unaltered w t o
-  pub few-groups : length (distinctGroups (namesOf offers)) ≤ room w
+  pub few-groups : length (distinctGroups (namesOf offers)) ≤ parityRoom w
 
 -- ---- "after every such list this holds"
 

@@ -16,7 +16,7 @@ use Rattle.rtp.specs.Rtp.{sequenceNumber}
 use Rattle.rtp.specs.Fec.{snbase}
 use Rattle.rtp.specs.Faults.{mediaTests, parityTests}
 use Rattle.window.specs.declared.Window.{Window}
-use Rattle.window.specs.Limits.{width, rows, room, setUpTests}
+use Rattle.window.specs.Limits.{width, rows, parityRoom, setUpTests}
 use Rattle.window.specs.Store.{Store, recordAt}
 use Rattle.window.specs.Group.{position, inside, isMissing}
 use Rattle.window.specs.Order.{inUse}
@@ -72,7 +72,7 @@ module _ {D : List (ℕ × ℕ)} (p : Offer (ℕ × ℕ) Content Packet) (key : 
 refresh : {w : Window} {D : List (ℕ × ℕ)} {v : Window} {s : Store} (f : Fine w D v s) → Fine w D (recount w (f .present) (f .used)) s
 refresh f = record { present = f .present; used = f .used; window = refl; order = f .order; keyed = f .keyed }
 
-module _ {w : Window} (O : Opened w) {D : List (ℕ × ℕ)} (enough : length D ≤ room w) where
+module _ {w : Window} (O : Opened w) {D : List (ℕ × ℕ)} (enough : length D ≤ parityRoom w) where
   -- a media datagram without a fault, at a position of the window
   pub fine-media : {v : Window} {s : Store} (g : List ℕ) → None (mediaTests (w .p) g) → position w (sequenceNumber g) < w .n → Fine w D v s → Goes w D (mediaSeen w g ∷ []) s (offeredMedia v g s)
   fine-media {v} {s} g faultless h f = subst (λ z. Goes w D (mediaSeen w g ∷ []) s (offeredMedia z g s)) (sym (f .window)) (go (decide (isMissing (s .marks) i)))
@@ -105,7 +105,7 @@ module _ {w : Window} (O : Opened w) {D : List (ℕ × ℕ)} (enough : length D 
       key k c e = let z : k ≡ (stream, snbase g) = cc in Memᴰ·cast z m
 
       -- not in hand: there is room
-      free : any in-hand (upTo (rows w)) ≡ false → f .used < room w
+      free : any in-hand (upTo (rows w)) ≡ false → f .used < parityRoom w
       free e =
           let o : Out (stream, snbase g) D = take-out m in
           let z = pigeon (checkAt s) (inUse w s) (rows w) (o .rest)

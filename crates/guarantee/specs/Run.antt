@@ -8,7 +8,7 @@ use lib.ListN.{length}
 use Rattle.sequence.specs.Lists.{upTo}
 use Rattle.rtp.specs.Fec.{column, row, snbase}
 use Rattle.window.specs.declared.Window.{Window}
-use Rattle.window.specs.Limits.{rows, room}
+use Rattle.window.specs.Limits.{rows, parityRoom}
 use Rattle.window.specs.Store.{Store, recordAt}
 use Rattle.window.specs.Group.{position, inside}
 use Rattle.window.specs.Order.{inUse}
@@ -62,7 +62,7 @@ module _ (w : Window) (D : List (ℕ × ℕ)) where
           record { fine = b .fine; runs = Theory.runs-then (code w) (a .runs) (b .runs) }
 
 -- an unaltered offer whose group is in D keeps the invariant: there is room for it
-fine-offer : {w : Window} (O : Opened w) {t : Stretch} → Fills w t → {D : List (ℕ × ℕ)} → length D ≤ room w → (p : Port) (g : List ℕ) → UnalteredOn w t p g
+fine-offer : {w : Window} (O : Opened w) {t : Stretch} → Fills w t → {D : List (ℕ × ℕ)} → length D ≤ parityRoom w → (p : Port) (g : List ℕ) → UnalteredOn w t p g
     → ((stream snbase : ℕ) → nameOn p g ≡ parityName stream snbase → List·Memᴰ (stream, snbase) D) → (v : Window) (s : Store) → Fine w D v s → Goes w D (seenOn w p g ∷ []) s (callOf p v g s)
 fine-offer {w} O F enough mediaPort g u key v s f =
     let L = limits w (O .based) (O .faultless) in
@@ -84,7 +84,7 @@ pub record Ready (w : Window) (a u : ℕ) (s : Store) (t : Stretch) (offers : Li
   pub ordered : Ordered w a u s
   pub holds : Holds w t s
   pub unaltered : (o : Offer) → List·Memᴰ o (counted w offers) → Unaltered w t o
-  pub few-groups : length (distinctGroups (receivedFrom w s offers)) ≤ room w
+  pub few-groups : length (distinctGroups (receivedFrom w s offers)) ≤ parityRoom w
 
 -- that is what is given
 pub ready-at : (w : Window) (a u : ℕ) (x : Outcome) {t : Stretch} {offers : List Offer} → x .window ≡ recount w a u → GivenFrom x t offers → Ready w a u (x .store) t offers

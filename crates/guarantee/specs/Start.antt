@@ -10,7 +10,7 @@ use Rattle.answer.specs.First.{first}
 use Rattle.sequence.specs.Lists.{upTo, keep}
 use Rattle.sequence.specs.Wrap.{numberAt}
 use Rattle.window.specs.declared.Window.{Window}
-use Rattle.window.specs.Limits.{width, rows, room}
+use Rattle.window.specs.Limits.{width, rows, parityRoom}
 use Rattle.window.specs.Store.{Store, recordAt}
 use Rattle.window.specs.Group.{inside}
 use Rattle.window.specs.Order.{isPresent, inUse, groupAt}
@@ -75,7 +75,7 @@ receivedFrom w s offers = heldAnd w s (counted w offers)
 pub record GivenFrom (x : Outcome) (t : Stretch) (offers : List Offer) : Type 0 where
   pub start : Start (x .window) t (x .store)
   pub unaltered : (o : Offer) → List·Memᴰ o (counted (x .window) offers) → Unaltered (x .window) t o
-  pub few-groups : length (distinctGroups (receivedFrom (x .window) (x .store) offers)) ≤ room (x .window)
+  pub few-groups : length (distinctGroups (receivedFrom (x .window) (x .store) offers)) ≤ parityRoom (x .window)
 
 -- two window values of the same set-up numbers
 abbrev pub SameSetUp : Window → Window → Type 0
@@ -108,5 +108,5 @@ ClaimChain =
     (x : Outcome) (t : Stretch) (offers more : List Offer)
     → GivenFrom x t offers
     → ((o : Offer) → List·Memᴰ o (counted (x .window) more) → Unaltered (x .window) t o)
-    → length (distinctGroups (receivedFrom (x .window) (run x offers .store) more)) ≤ room (x .window)
+    → length (distinctGroups (receivedFrom (x .window) (run x offers .store) more)) ≤ parityRoom (x .window)
     → Reached (run x offers) t more (run x (offers ++ more))

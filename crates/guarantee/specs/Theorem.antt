@@ -13,7 +13,7 @@ use Rattle.sequence.specs.Lists.{and-split as both}
 use Rattle.sequence.specs.Wrap.{numberAt}
 use Rattle.rtp.specs.Fec.{column, row, snbase}
 use Rattle.window.specs.declared.Window.{Window}
-use Rattle.window.specs.Limits.{width, room}
+use Rattle.window.specs.Limits.{width, parityRoom}
 use Rattle.window.specs.Store.{Store}
 use Rattle.window.specs.Group.{group, inside, isMissing}
 use Rattle.calls.specs.Content.{Content, xorContents, contentAt, recoveryAt}
@@ -156,7 +156,7 @@ demand3-chain x t offers more G ok few =
     rw (run-append x offers more) (demand3-from (run x offers) t more (record {
       start = a .start;
       unaltered = λ o m. subst (λ v. (o : Offer) → List·Memᴰ o (counted v more) → Unaltered v t o) (sym (a .set-up)) (λ o m. unaltered-on (x .window) (run x offers .window .present) (run x offers .window .«in_use») t o (ok o m)) o m;
-      few-groups = subst (λ v. length (distinctGroups (receivedFrom v (run x offers .store) more)) ≤ room v) (sym (a .set-up)) few;
+      few-groups = subst (λ v. length (distinctGroups (receivedFrom v (run x offers .store) more)) ≤ parityRoom v) (sym (a .set-up)) few;
     }))
 
 -- ---- two lists of the same packets

@@ -38,8 +38,8 @@ abbrev pub rows : Window → ℕ
 rows w = w .k
 
 -- how many parity packets may be in hand at once: K
-abbrev pub room : Window → ℕ
-room w = w .k
+abbrev pub parityRoom : Window → ℕ
+parityRoom w = w .k
 
 -- the in-use mark of this window's records: 1
 abbrev pub useMark : Window → ℕ

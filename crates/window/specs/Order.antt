@@ -20,7 +20,7 @@ isMark m = leb m 1
 abbrev pub isPresent : (marks : List ℕ) → ℕ → Bool
 isPresent marks i = eqb (getD marks i 0) 1
 
--- a record is in use: its mark is 1
+-- a row of a hand, which has one window's records alone, is in use: its mark is 1
 abbrev pub used : Record → Bool
 used v = eqb (v .«in_use») 1
 
