@@ -225,9 +225,9 @@ contents-sent p f t [] h = refl
 contents-sent p f t (j ∷ g) h = ap₂ xorContent (h j (List·Memᴰ·head refl)) (contents-sent p f t g (λ i m. h i (List·Memᴰ·tail m)))
 
 -- writing parity over an unaltered store
-pub parity-unaltered : ClaimWritten
+pub written-unaltered : ClaimWritten
 unfolding wroteParity
-parity-unaltered w t s stream snbase c o out base-fits sequence-fits timestamp-fits ssrc-fits H e =
+written-unaltered w t s stream snbase c o out base-fits sequence-fits timestamp-fits ssrc-fits H e =
     let z : first (writeTests w stream snbase s out) ≡ 0 = written-first (first (writeTests w stream snbase s out))
     (record { answer = Done (parityHeaderSize + w .p); window = w; out = over (parityOf w o stream snbase s) out })
     (record { answer = Refused (first (writeTests w stream snbase s out)); window = w; out = out }) (first (writeTests w stream snbase s out)) c refl e in
