@@ -81,7 +81,7 @@
  *   its arguments; tests/guard.c fails above 8 KiB.
  *   Time goes with n, K and P, with the records in use and with the packets rebuilt.
  *   At P 1,316, n 400, K 128 a media packet takes some 0.2 us and the worst call found,
- *   one late packet that rebuilds 100, some 50 us: docs/PERFORMANCE.md.
+ *   one late packet that rebuilds 100, some 45 us: docs/PERFORMANCE.md.
  *
  * An endless stream (examples/endless.c)
  *   A window stands still. Take two windows in turn, each with a store of its own, and

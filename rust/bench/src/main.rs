@@ -170,8 +170,7 @@ fn refuses(n: usize, k: usize) -> f64 {
 }
 
 fn main() {
-    writing();
-    println!("\na media packet in good weather, each packet of the window in turn, L 10, D 10");
+    println!("a media packet in good weather, each packet of the window in turn, L 10, D 10");
     for (n, k, p) in [(200, 40, 1316), (100, 40, 1316), (400, 40, 1316), (200, 10, 1316), (200, 128, 1316), (200, 40, 188), (200, 40, 752)]
     {
         let (each, copy) = good_weather(n, k, p);
@@ -198,4 +197,7 @@ fn main() {
     for (n, k) in [(200, 40), (400, 40), (200, 128)] {
         println!("  n {n:3}, K {k:3}          {:7.0} ns", refuses(n, k));
     }
+    // Last: ISA-L leaves the upper halves of the vector registers in use, and code without AVX is slower after it.
+    println!();
+    writing();
 }
