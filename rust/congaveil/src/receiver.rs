@@ -4,6 +4,26 @@ use crate::{Owned, MEDIA_HEADER, PAYLOAD_MAX};
 #[cfg(feature = "std")]
 use std::vec::Vec;
 
+/// A call with the five parts of a store lent between its other arguments: to be written (`as_mut_ptr`) or only read (`as_ptr`).
+macro_rules! lend {
+    ($call:expr, [$($before:expr),*], $store:expr, $pointer:ident, [$($after:expr),*]) => {
+        $call(
+            $($before,)*
+            $store.media.$pointer(),
+            $store.media.len(),
+            $store.timestamps.$pointer(),
+            $store.timestamps.len(),
+            $store.marks.$pointer(),
+            $store.marks.len(),
+            $store.parity.$pointer(),
+            $store.parity.len(),
+            $store.records.$pointer(),
+            $store.records.len(),
+            $($after),*
+        )
+    };
+}
+
 /// What a window is opened with.
 #[derive(Clone, Copy, Debug, PartialEq, Eq)]
 pub struct SetUp {
@@ -88,27 +108,7 @@ impl<S: Store> Receiver<S> {
         let SetUp { base, l, d, payload: p, positions: n, records: k, ssrc } = set_up;
         let s = store.lent();
         // SAFETY: the parts are borrowed slices, so valid for their lengths and apart from each other, until it returns.
-        let answer = unsafe {
-            face::cgv_open(
-                base,
-                l,
-                d,
-                p,
-                n,
-                k,
-                ssrc,
-                s.media.as_mut_ptr(),
-                s.media.len(),
-                s.timestamps.as_mut_ptr(),
-                s.timestamps.len(),
-                s.marks.as_mut_ptr(),
-                s.marks.len(),
-                s.parity.as_mut_ptr(),
-                s.parity.len(),
-                s.records.as_mut_ptr(),
-                s.records.len(),
-            )
-        };
+        let answer = unsafe { lend!(face::cgv_open, [base, l, d, p, n, k, ssrc], s, as_mut_ptr, []) };
         Refusal::check(&answer)?;
         Ok(Receiver { window: answer.window, store })
     }
@@ -148,24 +148,7 @@ impl<S: Store> Receiver<S> {
     pub fn read(&self, number: u16, out: &mut [u8]) -> Result<usize, Refusal> {
         let s = self.store.shown();
         // SAFETY: as in `open_in`; the store is borrowed shared, and the call only reads it.
-        let answer = unsafe {
-            face::cgv_read(
-                self.window,
-                number,
-                s.media.as_ptr(),
-                s.media.len(),
-                s.timestamps.as_ptr(),
-                s.timestamps.len(),
-                s.marks.as_ptr(),
-                s.marks.len(),
-                s.parity.as_ptr(),
-                s.parity.len(),
-                s.records.as_ptr(),
-                s.records.len(),
-                out.as_mut_ptr(),
-                out.len(),
-            )
-        };
+        let answer = unsafe { lend!(face::cgv_read, [self.window, number], s, as_ptr, [out.as_mut_ptr(), out.len()]) };
         Refusal::check(&answer)
     }
 
@@ -270,23 +253,7 @@ impl<S: Store> Receiver<S> {
     fn offer(&mut self, call: face::Offer, datagram: &[u8]) -> Result<usize, Refusal> {
         let s = self.store.lent();
         // SAFETY: as in `open_in`; the datagram is borrowed apart from the store.
-        let answer = unsafe {
-            call(
-                self.window,
-                datagram.as_ptr(),
-                datagram.len(),
-                s.media.as_mut_ptr(),
-                s.media.len(),
-                s.timestamps.as_mut_ptr(),
-                s.timestamps.len(),
-                s.marks.as_mut_ptr(),
-                s.marks.len(),
-                s.parity.as_mut_ptr(),
-                s.parity.len(),
-                s.records.as_mut_ptr(),
-                s.records.len(),
-            )
-        };
+        let answer = unsafe { lend!(call, [self.window, datagram.as_ptr(), datagram.len()], s, as_mut_ptr, []) };
         self.window = answer.window;
         Refusal::check(&answer)
     }
@@ -294,27 +261,8 @@ impl<S: Store> Receiver<S> {
     fn write(&self, call: face::Write, snbase: u16, outer: Outer, out: &mut [u8]) -> Result<usize, Refusal> {
         let s = self.store.shown();
         // SAFETY: as in `read`.
-        let answer = unsafe {
-            call(
-                self.window,
-                snbase,
-                outer.sequence,
-                outer.timestamp,
-                outer.ssrc,
-                s.media.as_ptr(),
-                s.media.len(),
-                s.timestamps.as_ptr(),
-                s.timestamps.len(),
-                s.marks.as_ptr(),
-                s.marks.len(),
-                s.parity.as_ptr(),
-                s.parity.len(),
-                s.records.as_ptr(),
-                s.records.len(),
-                out.as_mut_ptr(),
-                out.len(),
-            )
-        };
+        let Outer { sequence, timestamp, ssrc } = outer;
+        let answer = unsafe { lend!(call, [self.window, snbase, sequence, timestamp, ssrc], s, as_ptr, [out.as_mut_ptr(), out.len()]) };
         Refusal::check(&answer)
     }
 }
