@@ -1,4 +1,4 @@
--- What the walks of `gather`, `scatter_back` and `wipe` share. Assumes nothing.
+-- What the walks of `free_front`, `gather`, `scatter_back` and `wipe` share. Assumes nothing.
 use mathlib.Core.Path.{_≡_, refl}
 use mathlib.Core.Bool.{Bool, true, false}
 use mathlib.Core.List.{List}
