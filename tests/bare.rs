@@ -83,6 +83,8 @@ pub extern "C" fn bare_card(card: &mut Card, set_up: &[usize; 6], made_up: &Wind
     let how = desk.how(&receiver, number) == How::Rebuilt || receiver.has(number) || receiver.position(number) == receiver.window().n;
     let _ = write!(Line { out: line, len: 0 }, "{sum}");
     let busy = receiver.present() ^ receiver.in_hand() ^ receiver.into_parts().0.k;
-    core::hint::black_box((rest, here, seen, numbers, counted, how, busy));
+    // Written where the compiler may not leave it out, and so nothing above either.
+    let mut kept = (rest, here, seen, numbers, counted, how, busy);
+    unsafe { core::ptr::write_volatile(&mut kept, kept) };
     answers.iter().fold(told, |last, answer| answer.map_or_else(negative, |_| last))
 }

@@ -276,7 +276,7 @@ fn all_or_none(found: bool, k: usize) -> usize
     if found { 0 } else { k }
 }
 
-// How many records at the front of the table need no second look: the first k where all are free, or none. Eight bytes of marks are looked at at once.
+// How many records at the front of the table need no second look: the first k where all are free, or none. There is no branch in the loop, so that several records are looked at at once.
 fn free_front(table: &[Record], k: usize) -> usize
     requires { ⌜ k ≤ length (now table) ⌝ }
     ensures { λ r. ⌜ (r ≤ k) × (gathered r (now (table .entry)) ≡ []) ⌝ }
