@@ -1,7 +1,7 @@
 /* A card in C: opens a window at the first media packet of a capture, feeds it the capture with losses, and prints what was recovered
  * and what stays missing.
  *
- *     card FILE L D PAYLOAD
+ *     card FILE L D PAYLOAD       (the largest payload, in bytes)
  *
  * A capture is a run of entries: one byte of kind (1 media, 2 column parity, 3 row parity), two bytes of length, big-endian,
  * and the datagram. Lost here: positions 8 to 12, a burst of 16 from 40 on, and every 17th.
@@ -16,9 +16,10 @@ enum { POSITIONS = 200, RECORDS = 80 };
 
 static uint8_t media[POSITIONS * CGV_PAYLOAD_MAX], marks[POSITIONS], parity[RECORDS * CGV_PAYLOAD_MAX];
 static uint32_t timestamps[POSITIONS];
+static uint16_t lengths[POSITIONS];
 static struct cgv_record records[RECORDS];
 
-static struct cgv_receiver card = {CGV_NO_WINDOW, CGV_STORE_OF_ARRAYS(media, timestamps, marks, parity, records)};
+static struct cgv_receiver card = {CGV_NO_WINDOW, CGV_STORE_OF_ARRAYS(media, timestamps, lengths, marks, parity, records)};
 static struct cgv_desk desk;
 
 /* A capture that is being read: where the next entry starts, and its number from 1 on. */
@@ -104,7 +105,7 @@ static void offer(int kind, const uint8_t *datagram, size_t len)
     else
         cgv_desk_row(&desk, &card, datagram, len);
     while (cgv_desk_rebuilt(&desk, &card, &number)) {
-        /* A card sends the packet on from here: P bytes at cgv_receiver_payload(&card, number). */
+        /* A card sends the packet on from here: cgv_receiver_length(&card, number) bytes at cgv_receiver_payload(&card, number). */
     }
 }
 

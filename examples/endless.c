@@ -11,6 +11,7 @@ enum { L = 10, D = 10, P = 188, N = 400, K = 128, PACKETS = 200000, JOIN = 57, F
 
 static uint8_t media[2][N * P], marks[2][N], parity[2][K * P];
 static uint32_t timestamps[2][N];
+static uint16_t lengths[2][N];
 static struct cgv_record records[2][K];
 
 /* Two windows in turn. The older one is closed when the column parity of its last matrix has gone by, and its store opened again
@@ -19,7 +20,7 @@ struct card {
     struct cgv_receiver window[2];
     int older;
     size_t step; /* from one base to the next */
-    unsigned long next, present, missing, wrong, alarms, refused;
+    unsigned long next, present, missing, wrong, alarms, spoilt, refused;
 };
 
 static void open_window(struct card *c, int which, uint16_t base)
@@ -31,8 +32,8 @@ static void open_window(struct card *c, int which, uint16_t base)
 static void start(struct card *c, uint16_t base)
 {
     static const struct cgv_receiver stores[2] = {
-        {CGV_NO_WINDOW, CGV_STORE_OF_ARRAYS(media[0], timestamps[0], marks[0], parity[0], records[0])},
-        {CGV_NO_WINDOW, CGV_STORE_OF_ARRAYS(media[1], timestamps[1], marks[1], parity[1], records[1])}};
+        {CGV_NO_WINDOW, CGV_STORE_OF_ARRAYS(media[0], timestamps[0], lengths[0], marks[0], parity[0], records[0])},
+        {CGV_NO_WINDOW, CGV_STORE_OF_ARRAYS(media[1], timestamps[1], lengths[1], marks[1], parity[1], records[1])}};
     memcpy(c->window, stores, sizeof stores);
     open_window(c, 0, base);
     open_window(c, 1, (uint16_t)(base + c->step));
@@ -52,7 +53,7 @@ static void turn(struct card *c)
         if (i < c->step) {
             c->present += payload != NULL;
             c->missing += payload == NULL;
-            c->wrong += payload && (payload[0] != byte_of(c->next) || payload[P - 1] != byte_of(c->next));
+            c->wrong += payload && (cgv_receiver_length(old, number) != P || payload[0] != byte_of(c->next) || payload[P - 1] != byte_of(c->next));
             c->next++;
         } else if (payload && !cgv_receiver_has(new, number)) {
             size_t len = cgv_receiver_read(old, number, datagram, sizeof datagram).count;
@@ -78,6 +79,7 @@ static void arrive(struct card *c, int port, const uint8_t *datagram, size_t len
         struct cgv_answer a = port == MEDIA ? cgv_receiver_media(r, datagram, len)
                                             : port == COLUMN ? cgv_receiver_column(r, datagram, len) : cgv_receiver_row(r, datagram, len);
         c->alarms += port == MEDIA && a.number == CGV_DIFFERS;
+        c->spoilt += a.spoilt;
         c->refused += a.number != CGV_DONE && a.number != CGV_OUTSIDE && a.number != CGV_REPEAT && a.number != CGV_FULL;
     }
 }
@@ -93,8 +95,10 @@ static int lost(void)
 
 static uint8_t matrix[L * D * P], matrix_marks[L * D], no_parity[P], columns[L][CGV_PARITY_HEADER + P];
 static uint32_t matrix_timestamps[L * D];
+static uint16_t matrix_lengths[L * D];
 static struct cgv_record no_records[1];
-static struct cgv_receiver sender = {CGV_NO_WINDOW, CGV_STORE_OF_ARRAYS(matrix, matrix_timestamps, matrix_marks, no_parity, no_records)};
+static struct cgv_receiver sender = {
+    CGV_NO_WINDOW, CGV_STORE_OF_ARRAYS(matrix, matrix_timestamps, matrix_lengths, matrix_marks, no_parity, no_records)};
 
 /* The media packet of a place, 12 + P bytes; the sender keeps it for the parity. */
 static void make_media(uint8_t *g, unsigned long place)
@@ -156,8 +160,8 @@ int main(void)
     for (i = 0; i < 2; i++) {
         static struct card c;
         unsigned long gone = run(&c, ways[i].step);
-        printf("%s: %lu lost on the line; sent on %lu, missing %lu, wrong %lu, alarms %lu, refused otherwise %lu\n", ways[i].name, gone,
-               c.present, c.missing, c.wrong, c.alarms, c.refused);
+        printf("%s: %lu lost on the line; sent on %lu, missing %lu, wrong %lu, alarms %lu, spoilt %lu, refused otherwise %lu\n", ways[i].name, gone,
+               c.present, c.missing, c.wrong, c.alarms, c.spoilt, c.refused);
     }
     return 0;
 }

@@ -9,14 +9,17 @@
  *
  *     static uint8_t media[200 * 1316], marks[200], parity[40 * 1316];
  *     static uint32_t timestamps[200];
+ *     static uint16_t lengths[200];
  *     static struct cgv_record records[40];
  *     static struct cgv_receiver r = {
- *         CGV_NO_WINDOW, CGV_STORE_OF_ARRAYS(media, timestamps, marks, parity, records)};
+ *         CGV_NO_WINDOW,
+ *         CGV_STORE_OF_ARRAYS(media, timestamps, lengths, marks, parity, records)};
  *
  *     cgv_receiver_open(&r, first_number, 10, 10, 1316, 200, 40, ssrc);
  *     cgv_receiver_media(&r, datagram, len);   (from the media port; _column: two ports
  *                                               higher; _row: four ports higher)
  *     payload = cgv_receiver_payload(&r, number);   (NULL where it is missing)
+ *     len = cgv_receiver_length(&r, number);        (its bytes; 0 where it is missing)
  *
  * What a call does is proved for every input: answer, next window value and every lent
  * byte are those of its definition. The functions written out in this header are not
@@ -32,19 +35,32 @@
  *     output of its own. Calls on different stores never meet.
  * Nothing is asked of what the buffers and datagrams hold: no packet needs vetting first.
  *
+ * Lengths
+ *   P is the largest payload. A payload is one or more whole transport packets up to P,
+ *   each packet its own number of them; they have 188 bytes where P is a multiple of 188,
+ *   else 204. A parity payload is as long as the longest of its group, the shorter ones
+ *   counting as filled up with zeros, and its length recovery is the exclusive-or of the
+ *   group's lengths. A media datagram is 12 bytes and its payload, a parity datagram 28
+ *   bytes and its payload.
+ *
  * The store: position i stands for sequence number (base + i) modulo 65,536
- *   media       n x P bytes: the payload of position i is the P bytes at media + i * P
+ *   media       n x P bytes: the payload of position i is the lengths[i] bytes at
+ *               media + i * P, and zeros up to P
  *   timestamps  n numbers in the machine's byte order
+ *   lengths     n numbers in the machine's byte order: payload bytes of position i
  *   marks       n bytes: 1 the packet of position i is present, received or rebuilt;
- *               0 it is missing, and the bytes at media + i * P mean nothing
- *   parity      K x P bytes: the payload of record j is the P bytes at parity + j * P
+ *               0 it is missing, and the bytes at media + i * P, timestamps[i] and
+ *               lengths[i] mean nothing
+ *   parity      K x P bytes: the payload of record j at parity + j * P, zeros up to P
  *   records     K records: parity packets in hand, that wait for two or more packets
- * Where marks[i] is 1, media + i * P and timestamps[i] may be read directly, between
- * calls. Nobody but the calls may write the store while a window is open; a store that
- * was changed is refused with 5 as far as that can be seen.
+ * Where marks[i] is 1, media + i * P, timestamps[i] and lengths[i] may be read directly,
+ * between calls. Nobody but the calls may write the store while a window is open; a store
+ * that was changed is refused with 5 as far as that can be seen. Bytes past a kept length
+ * count as zero, whatever stands there.
  * A buffer may be longer than its need; what is past the need is never touched.
- * cgv_open writes all that the window needs of the five parts, an offer some of that;
- * cgv_read and the writing of parity write the output alone.
+ * cgv_open writes all that the window needs of the six parts, an offer some of that;
+ * cgv_read and the writing of parity write the output alone, and of that as many bytes as
+ * the count says.
  *
  * How large
  *   n: L x D at least, 400 at most. Senders put a matrix's column parity on the line
@@ -56,8 +72,8 @@
  *   Anyone who can send to the parity ports can hold all K records with K forged parity
  *   packets, each over packets that are missing, until these arrive or the window ends:
  *   true parity then meets 16. And forged or damaged parity rebuilds wrong packets, which
- *   nothing shows but a 15 when the true one arrives. Sender addresses are the card's to
- *   check.
+ *   nothing shows but a 15 when the true one arrives; where the packet that it gives cannot
+ *   be right at all, it is spoilt. Sender addresses are the card's to check.
  *
  * What to do with an answer
  *   0          taken in. The count of an offer is packets rebuilt, and not packets lost on
@@ -65,6 +81,12 @@
  *              last packet, so a stream without a loss reports rebuilt packets, each
  *              followed by a 14. "Recovered" is rebuilt and never arrived;
  *              congaveil_desk.h counts so.
+ *   spoilt     of an answer 0: so many parity packets gave a packet that cannot be right
+ *              (no bytes, not whole transport packets, longer than the parity, or with
+ *              bytes past its end). They are released, and the packet stays missing unless
+ *              other parity gives it. Unaltered traffic never shows one: parity was damaged
+ *              or forged, or a media packet of its group was, which may have gone to air.
+ *              Tell the desk.
  *   13 14 16   routine: of another window; already there; no room for it now.
  *   15         on media THE ALARM: a packet already marked present differs from the one
  *              that arrived. One of the two is wrong, and the one in the store may have
@@ -77,7 +99,7 @@
  * which every other call refuses with 1.
  *
  * Stack and time
- *   A call needs less than 8 KiB of stack: 7,376 bytes measured on a painted stack, with
+ *   A call needs less than 8 KiB of stack: 6,752 bytes measured on a painted stack, with
  *   its arguments; tests/guard.c fails above 8 KiB.
  *   Time goes with n, K and P, with the records in use and with the packets rebuilt.
  *   At P 1,316, n 400, K 128 a media packet takes some 0.2 us and the worst call found,
@@ -133,7 +155,7 @@ struct cgv_window {
     uint16_t base;   /* sequence number of position 0 */
     uint32_t ssrc;   /* written by cgv_read */
     size_t l, d;     /* columns and rows of the parity matrix */
-    size_t p;        /* payload bytes of every media packet */
+    size_t p;        /* payload bytes of a media packet at most */
     size_t n;        /* positions */
     size_t k;        /* records: room for parity packets in hand */
     size_t present;  /* packets present */
@@ -147,13 +169,18 @@ struct cgv_record {
     uint8_t in_use;  /* 1, or 0 where the record is free */
     uint16_t snbase;
     uint32_t timestamp_recovery;
+    uint16_t length_recovery;
+    uint16_t payload_length; /* bytes of its own payload */
 };
 
 /* number: CGV_DONE or the refusal. count: packets rebuilt by an offer, or bytes written
- * by cgv_read and the writing of parity. window: to be passed to the next call. */
+ * by cgv_read and the writing of parity. spoilt: parity packets that an offer released
+ * because the packet that they gave cannot be right; 0 of every other call and refusal.
+ * window: to be passed to the next call. */
 struct cgv_answer {
     uint32_t number;
     size_t count;
+    size_t spoilt;
     struct cgv_window window;
 };
 
@@ -165,11 +192,14 @@ CGV_LAYOUT(window, sizeof(struct cgv_window) == 64 && offsetof(struct cgv_window
                        offsetof(struct cgv_window, p) == 24 && offsetof(struct cgv_window, n) == 32 &&
                        offsetof(struct cgv_window, k) == 40 && offsetof(struct cgv_window, present) == 48 &&
                        offsetof(struct cgv_window, in_use) == 56);
-CGV_LAYOUT(record, sizeof(struct cgv_record) == 8 && offsetof(struct cgv_record, in_use) == 1 &&
+CGV_LAYOUT(record, sizeof(struct cgv_record) == 12 && offsetof(struct cgv_record, in_use) == 1 &&
                        offsetof(struct cgv_record, snbase) == 2 &&
-                       offsetof(struct cgv_record, timestamp_recovery) == 4);
-CGV_LAYOUT(answer, sizeof(struct cgv_answer) == 80 && offsetof(struct cgv_answer, count) == 8 &&
-                       offsetof(struct cgv_answer, window) == 16);
+                       offsetof(struct cgv_record, timestamp_recovery) == 4 &&
+                       offsetof(struct cgv_record, length_recovery) == 8 &&
+                       offsetof(struct cgv_record, payload_length) == 10);
+CGV_LAYOUT(answer, sizeof(struct cgv_answer) == 88 && offsetof(struct cgv_answer, count) == 8 &&
+                       offsetof(struct cgv_answer, spoilt) == 16 &&
+                       offsetof(struct cgv_answer, window) == 24);
 
 /* Answers: the first refusal that applies, in this order. */
 enum {
@@ -182,9 +212,9 @@ enum {
     CGV_SHORT_DATAGRAM = 6,   /* under 12 bytes (media) or 28 (parity) */
     CGV_BAD_RTP_HEADER = 7,   /* version not 2, or padding, extension, CSRC or marker set */
     CGV_BAD_PAYLOAD_TYPE = 8, /* not 33 (media) or 96 (parity) */
-    CGV_BAD_LENGTH = 9,       /* payload part not exactly P bytes */
+    CGV_BAD_LENGTH = 9,       /* payload part not one or more whole transport packets up to P */
     CGV_BAD_FEC_HEADER = 10,  /* E not 1, or mask, X, type, index or SNBase ext not 0 */
-    CGV_BAD_RECOVERY = 11,    /* PT or length recovery not the profile's */
+    CGV_BAD_RECOVERY = 11,    /* PT recovery not the profile's */
     CGV_BAD_SHAPE = 12,       /* wrong port, offset or NA, or a row where L < 4 */
     CGV_OUTSIDE = 13,         /* a number or a member of the group is not in the window */
     CGV_REPEAT = 14,          /* already held, the same */
@@ -194,53 +224,62 @@ enum {
 };
 #define CGV_NUMBERS 18        /* numbers from 0 to 17 */
 
-/* ---- the seven calls. The store is lent as five parts, each with its length in elements. */
+/* ---- the seven calls. The store is lent as six parts, each with its length in elements. */
 
 /* Opens a window: 0, or 1 to 4 with a window value of zeros. All that the window needs of
  * the store is set to zero, so that every packet is missing and every record free. */
 struct cgv_answer cgv_open(uint16_t base, size_t l, size_t d, size_t p, size_t n, size_t k,
                            uint32_t ssrc, uint8_t *media, size_t media_len,
-                           uint32_t *timestamps, size_t timestamps_len, uint8_t *marks,
-                           size_t marks_len, uint8_t *parity, size_t parity_len,
-                           struct cgv_record *records, size_t records_len);
+                           uint32_t *timestamps, size_t timestamps_len, uint16_t *lengths,
+                           size_t lengths_len, uint8_t *marks, size_t marks_len,
+                           uint8_t *parity, size_t parity_len, struct cgv_record *records,
+                           size_t records_len);
 
 /* Offers a datagram that came in on the media port (0, 1 to 9, 13 to 15): the UDP payload,
  * RTP header first. The count is of packets rebuilt. */
 struct cgv_answer cgv_media(struct cgv_window w, const uint8_t *datagram, size_t len,
                             uint8_t *media, size_t media_len, uint32_t *timestamps,
-                            size_t timestamps_len, uint8_t *marks, size_t marks_len,
-                            uint8_t *parity, size_t parity_len, struct cgv_record *records,
+                            size_t timestamps_len, uint16_t *lengths, size_t lengths_len,
+                            uint8_t *marks, size_t marks_len, uint8_t *parity,
+                            size_t parity_len, struct cgv_record *records,
                             size_t records_len);
 
 /* Offers a datagram that came in on the column parity port (0, 1 to 16). */
 struct cgv_answer cgv_column(struct cgv_window w, const uint8_t *datagram, size_t len,
                              uint8_t *media, size_t media_len, uint32_t *timestamps,
-                             size_t timestamps_len, uint8_t *marks, size_t marks_len,
-                             uint8_t *parity, size_t parity_len, struct cgv_record *records,
+                             size_t timestamps_len, uint16_t *lengths, size_t lengths_len,
+                             uint8_t *marks, size_t marks_len, uint8_t *parity,
+                             size_t parity_len, struct cgv_record *records,
                              size_t records_len);
 
 /* Offers a datagram that came in on the row parity port (0, 1 to 16). */
 struct cgv_answer cgv_row(struct cgv_window w, const uint8_t *datagram, size_t len,
                           uint8_t *media, size_t media_len, uint32_t *timestamps,
-                          size_t timestamps_len, uint8_t *marks, size_t marks_len,
-                          uint8_t *parity, size_t parity_len, struct cgv_record *records,
+                          size_t timestamps_len, uint16_t *lengths, size_t lengths_len,
+                          uint8_t *marks, size_t marks_len, uint8_t *parity,
+                          size_t parity_len, struct cgv_record *records,
                           size_t records_len);
 
-/* Reads the packet of a sequence number out as a datagram: 12 + P bytes, with the SSRC of
- * the window (0, 1 to 5, 13, 17). The count is of bytes written. */
+/* Reads the packet of a sequence number out as a datagram: 12 bytes and its payload, with
+ * the SSRC of the window (0, 1 to 5, 13, 17). The count is of bytes written; the output has
+ * room for 12 + P all the same. */
 struct cgv_answer cgv_read(struct cgv_window w, uint16_t number, const uint8_t *media,
                            size_t media_len, const uint32_t *timestamps,
-                           size_t timestamps_len, const uint8_t *marks, size_t marks_len,
+                           size_t timestamps_len, const uint16_t *lengths,
+                           size_t lengths_len, const uint8_t *marks, size_t marks_len,
                            const uint8_t *parity, size_t parity_len,
                            const struct cgv_record *records, size_t records_len, uint8_t *out,
                            size_t out_len);
 
-/* Writes the parity datagram of the column that starts at snbase: 28 + P bytes
- * (0, 1 to 5, 13, 17). Sequence number, timestamp and SSRC are those of the parity stream. */
+/* Writes the parity datagram of the column that starts at snbase (0, 1 to 5, 13, 17): 28
+ * bytes and as many as the longest payload of the group. The count is of bytes written; the
+ * output has room for 28 + P all the same. Sequence number, timestamp and SSRC are those of
+ * the parity stream. */
 struct cgv_answer cgv_write_column(struct cgv_window w, uint16_t snbase, uint16_t sequence,
                                    uint32_t timestamp, uint32_t ssrc, const uint8_t *media,
                                    size_t media_len, const uint32_t *timestamps,
-                                   size_t timestamps_len, const uint8_t *marks,
+                                   size_t timestamps_len, const uint16_t *lengths,
+                                   size_t lengths_len, const uint8_t *marks,
                                    size_t marks_len, const uint8_t *parity,
                                    size_t parity_len, const struct cgv_record *records,
                                    size_t records_len, uint8_t *out, size_t out_len);
@@ -249,7 +288,8 @@ struct cgv_answer cgv_write_column(struct cgv_window w, uint16_t snbase, uint16_
 struct cgv_answer cgv_write_row(struct cgv_window w, uint16_t snbase, uint16_t sequence,
                                 uint32_t timestamp, uint32_t ssrc, const uint8_t *media,
                                 size_t media_len, const uint32_t *timestamps,
-                                size_t timestamps_len, const uint8_t *marks, size_t marks_len,
+                                size_t timestamps_len, const uint16_t *lengths,
+                                size_t lengths_len, const uint8_t *marks, size_t marks_len,
                                 const uint8_t *parity, size_t parity_len,
                                 const struct cgv_record *records, size_t records_len,
                                 uint8_t *out, size_t out_len);
@@ -262,6 +302,8 @@ struct cgv_store {
     size_t media_len;
     uint32_t *timestamps;
     size_t timestamps_len;
+    uint16_t *lengths;
+    size_t lengths_len;
     uint8_t *marks;
     size_t marks_len;
     uint8_t *parity;
@@ -276,16 +318,17 @@ struct cgv_receiver {
 };
 
 /* Initialisers: no window yet (every call but opening refuses it with 1), and a store of
- * five arrays. */
+ * six arrays. */
 #define CGV_NO_WINDOW {0, 0, 0, 0, 0, 0, 0, 0, 0}
-#define CGV_STORE_OF_ARRAYS(media, timestamps, marks, parity, records)                     \
+#define CGV_STORE_OF_ARRAYS(media, timestamps, lengths, marks, parity, records)           \
     {media, sizeof(media), timestamps, sizeof(timestamps) / sizeof((timestamps)[0]),      \
-     marks, sizeof(marks), parity, sizeof(parity),                                        \
-     records, sizeof(records) / sizeof((records)[0])}
+     lengths, sizeof(lengths) / sizeof((lengths)[0]), marks, sizeof(marks),               \
+     parity, sizeof(parity), records, sizeof(records) / sizeof((records)[0])}
 
 #define CGV_STORE_ARGUMENTS(s)                                                            \
-    (s).media, (s).media_len, (s).timestamps, (s).timestamps_len, (s).marks,              \
-        (s).marks_len, (s).parity, (s).parity_len, (s).records, (s).records_len
+    (s).media, (s).media_len, (s).timestamps, (s).timestamps_len, (s).lengths,            \
+        (s).lengths_len, (s).marks, (s).marks_len, (s).parity, (s).parity_len,            \
+        (s).records, (s).records_len
 
 /* Opens a window in a receiver whose store is filled in. Where it is refused, a window that
  * was open stays open, and nothing of it has changed. */
@@ -367,8 +410,9 @@ static inline int cgv_receiver_has(const struct cgv_receiver *r, uint16_t number
            r->store.marks[position] == 1;
 }
 
-/* The payload of a sequence number where it lies in the store, P bytes, or NULL where the
- * packet is missing or not of the window. It stays as it is until the next opening. */
+/* The payload of a sequence number where it lies in the store, cgv_receiver_length bytes and
+ * then zeros up to P, or NULL where the packet is missing or not of the window. It stays as
+ * it is until the next opening. */
 static inline const uint8_t *cgv_receiver_payload(const struct cgv_receiver *r,
                                                   uint16_t number)
 {
@@ -376,6 +420,17 @@ static inline const uint8_t *cgv_receiver_payload(const struct cgv_receiver *r,
     if (!cgv_receiver_has(r, number) || p == 0 || position >= r->store.media_len / p)
         return NULL;
     return r->store.media + position * p;
+}
+
+/* The payload bytes of a sequence number, P at most, or 0 where the packet is missing or not
+ * of the window. */
+static inline size_t cgv_receiver_length(const struct cgv_receiver *r, uint16_t number)
+{
+    size_t position = cgv_position(&r->window, number), length;
+    if (!cgv_receiver_has(r, number) || position >= r->store.lengths_len)
+        return 0;
+    length = r->store.lengths[position];
+    return length <= r->window.p ? length : r->window.p;
 }
 
 /* ---- for routing: the numbers of a datagram that was not offered yet. 1, or 0 where it
@@ -412,9 +467,9 @@ static inline const char *cgv_message(uint32_t number)
     case CGV_SHORT_DATAGRAM: return "datagram shorter than its headers";
     case CGV_BAD_RTP_HEADER: return "RTP version not 2, or padding, extension, CSRC or marker set";
     case CGV_BAD_PAYLOAD_TYPE: return "payload type not that of the port";
-    case CGV_BAD_LENGTH: return "payload not of the window's size";
+    case CGV_BAD_LENGTH: return "payload not whole transport packets up to the window's size";
     case CGV_BAD_FEC_HEADER: return "parity header: E, mask, X, type, index or SNBase ext";
-    case CGV_BAD_RECOVERY: return "payload type or length recovery not the profile's";
+    case CGV_BAD_RECOVERY: return "payload type recovery not the profile's";
     case CGV_BAD_SHAPE: return "parity not of this port and profile";
     case CGV_OUTSIDE: return "outside the window";
     case CGV_REPEAT: return "already held";

@@ -9,7 +9,7 @@
  *     cgv_desk_begin(&desk, &r);                          after every opening
  *     a = cgv_desk_media(&desk, &r, datagram, len);       instead of cgv_receiver_media
  *     while (cgv_desk_rebuilt(&desk, &r, &number))        what was rebuilt since last asked
- *         send(number, cgv_receiver_payload(&r, number));
+ *         send(number, cgv_receiver_payload(&r, number), cgv_receiver_length(&r, number));
  *     cgv_counters_line(&desk.counters, text, sizeof text);
  *
  * Not proved; tested in C and in Rust, whose crate has the same.
@@ -31,6 +31,7 @@ struct cgv_counters {
     uint64_t rebuilt;              /* packets rebuilt, also those that arrived afterwards */
     uint64_t late;                 /* rebuilt before they arrived */
     uint64_t alarms;               /* 15 on media: present, and another one arrived */
+    uint64_t spoilt;               /* parity released: what it gave cannot be right */
     uint64_t answers[CGV_NUMBERS]; /* offers by answer: [0] taken in, [n] refused with n */
 };
 
@@ -66,6 +67,7 @@ static inline void cgv_counters_add(struct cgv_counters *sum, const struct cgv_c
     sum->rebuilt += c->rebuilt;
     sum->late += c->late;
     sum->alarms += c->alarms;
+    sum->spoilt += c->spoilt;
     for (i = 0; i < CGV_NUMBERS; i++)
         sum->answers[i] += c->answers[i];
 }
@@ -98,6 +100,7 @@ static inline void cgv_desk_book(struct cgv_desk *desk, struct cgv_answer a)
 {
     if (a.number < CGV_NUMBERS)
         desk->counters.answers[a.number]++;
+    desk->counters.spoilt += a.spoilt;
     if (a.count) {
         desk->counters.rebuilt += a.count;
         desk->untold += a.count;
@@ -231,6 +234,8 @@ static inline size_t cgv_counters_line(const struct cgv_counters *c, char *out, 
     cgv_text_number(&t, cgv_missing(c));
     cgv_text_put(&t, ", alarms ");
     cgv_text_number(&t, c->alarms);
+    cgv_text_put(&t, ", spoilt ");
+    cgv_text_number(&t, c->spoilt);
     cgv_text_put(&t, ", refused ");
     cgv_text_number(&t, cgv_refused(c));
     for (i = 1; i < CGV_NUMBERS; i++)

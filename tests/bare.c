@@ -7,6 +7,7 @@
 struct card {
     uint8_t media[16 * 188];
     uint32_t timestamps[16];
+    uint16_t lengths[16];
     uint8_t marks[16], parity[8 * 188];
     struct cgv_record records[8];
     uint8_t datagram[216];
@@ -25,7 +26,8 @@ int main(void)
     card.datagram[0] = 0x80, card.datagram[1] = 33, card.datagram[2] = 0xff, card.datagram[3] = 0xfb;
     card.len = 200;
     answers[0] = bare_card(&card, good, &huge, true, 65531);
-    if (strcmp(card.line, "received 1, recovered 0, late 0, missing 15, alarms 0, refused 2 (no. 8: 2)") || card.marks[1] != 1) {
+    if (strcmp(card.line, "received 1, recovered 0, late 0, missing 15, alarms 0, spoilt 0, refused 2 (no. 8: 2)") || card.marks[1] != 1 ||
+        card.lengths[1] != 188) {
         fprintf(stderr, "bare: %s\n", card.line);
         return 1;
     }

@@ -3,7 +3,7 @@
 //! panic is left. tests/bare.c calls it.
 #![no_std]
 
-use congaveil::{media_number, parity_snbase, Counters, Desk, How, Lent, Outer, Receiver, Record, Refusal, SetUp, Window};
+use congaveil::{media_number, parity_snbase, Counters, Desk, How, Lent, Outer, Receiver, Record, Refusal, SetUp, Taken, Window};
 use core::fmt::Write;
 
 extern "C" {
@@ -36,6 +36,7 @@ impl Write for Line<'_> {
 pub struct Card {
     media: [u8; 16 * 188],
     timestamps: [u32; 16],
+    lengths: [u16; 16],
     marks: [u8; 16],
     parity: [u8; 8 * 188],
     records: [Record; 8],
@@ -52,8 +53,8 @@ fn negative(refusal: Refusal) -> i32 {
 /// as a negative number.
 #[no_mangle]
 pub extern "C" fn bare_card(card: &mut Card, set_up: &[usize; 6], made_up: &Window, opens: bool, number: u16) -> i32 {
-    let Card { media, timestamps, marks, parity, records, datagram, len, line } = card;
-    let lent = Lent { media, timestamps, marks, parity, records };
+    let Card { media, timestamps, lengths, marks, parity, records, datagram, len, line } = card;
+    let lent = Lent { media, timestamps, lengths, marks, parity, records };
     let datagram = datagram.get(..*len).unwrap_or(&[]);
     let [base, l, d, payload, positions, room] = *set_up;
     let mut receiver = if opens {
@@ -66,11 +67,12 @@ pub extern "C" fn bare_card(card: &mut Card, set_up: &[usize; 6], made_up: &Wind
     };
     let mut desk = Desk::new();
     desk.begin(&receiver);
-    let mut answers = [desk.media(&mut receiver, datagram), desk.column(&mut receiver, datagram), desk.row(&mut receiver, datagram), Ok(0)];
+    let none = Ok(Taken::default());
+    let mut answers = [desk.media(&mut receiver, datagram), desk.column(&mut receiver, datagram), desk.row(&mut receiver, datagram), none];
     let mut out = [0; 216];
     let _ = receiver.read(number, &mut out);
     let _ = receiver.write_column(number, Outer::default(), &mut out);
-    answers[3] = receiver.write_row(number, Outer::default(), &mut out).map(|_| 0);
+    answers[3] = receiver.write_row(number, Outer::default(), &mut out).map(|_| Taken::default());
     let (told, rest) = desk
         .rebuilt(&receiver)
         .fold((0, 0usize), |(told, sum), p| (i32::wrapping_add(told, 1), p.payload.len() ^ sum ^ usize::from(p.number)));

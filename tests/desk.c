@@ -1,6 +1,6 @@
 /* The desk: which packets were rebuilt, and the counters, over a capture of GStreamer without a loss and over packets made here.
  *
- *     desk CAPTURE        a capture of GStreamer, 4 x 4, payload 752
+ *     desk CAPTURE MIXED      captures of GStreamer, 4 x 4: payloads of 752, and of several lengths up to 1,316
  *
  * Exits 1 at the first difference. Buffers come from malloc with not a byte to spare; under valgrind a step past one is an error. */
 #include "congaveil_desk.h"
@@ -23,13 +23,14 @@ static void must(int holds, const char *what)
 
 static struct cgv_receiver new_receiver(size_t n, size_t p, size_t k)
 {
-    struct cgv_receiver r = {CGV_NO_WINDOW, {NULL, n * p, NULL, n, NULL, n, NULL, k * p, NULL, k}};
+    struct cgv_receiver r = {CGV_NO_WINDOW, {NULL, n * p, NULL, n, NULL, n, NULL, n, NULL, k * p, NULL, k}};
     r.store.media = malloc(n * p);
     r.store.timestamps = malloc(n * sizeof(uint32_t));
+    r.store.lengths = malloc(n * sizeof(uint16_t));
     r.store.marks = malloc(n);
     r.store.parity = malloc(k * p);
     r.store.records = malloc(k * sizeof(struct cgv_record));
-    must(r.store.media && r.store.timestamps && r.store.marks && r.store.parity && r.store.records, "room");
+    must(r.store.media && r.store.timestamps && r.store.lengths && r.store.marks && r.store.parity && r.store.records, "room");
     return r;
 }
 
@@ -37,6 +38,7 @@ static void end_receiver(struct cgv_receiver *r)
 {
     free(r->store.media);
     free(r->store.timestamps);
+    free(r->store.lengths);
     free(r->store.marks);
     free(r->store.parity);
     free(r->store.records);
@@ -70,10 +72,11 @@ static uint16_t at(int position) { return (uint16_t)(BASE + position); }
 
 /* GStreamer sends a row's parity before the row's last packet: nothing is lost, and still packets are rebuilt, each refused
  * with 14 when it arrives. None of them is recovered. */
-static void without_a_loss(const char *name)
+static void without_a_loss(const char *name, size_t p)
 {
     static uint8_t g[65536];
-    struct cgv_receiver r = new_receiver(400, 752, 128);
+    static size_t sent[400]; /* payload bytes by position */
+    struct cgv_receiver r = new_receiver(400, p, 128);
     struct cgv_desk desk;
     size_t len, offered = 0, told = 0;
     uint16_t number;
@@ -87,10 +90,14 @@ static void without_a_loss(const char *name)
         must(low != EOF && fread(g, 1, len, f) == len, "the capture is whole");
         if (!r.window.n) {
             must(kind == 1 && cgv_media_number(g, len, &number), "it starts with media");
-            must(cgv_receiver_open(&r, number, L, D, 752, 400, 128, 1).number == 0, "opens");
+            must(cgv_receiver_open(&r, number, L, D, p, 400, 128, 1).number == 0, "opens");
             cgv_desk_begin(&desk, &r);
         }
-        offered += kind == 1;
+        if (kind == 1) {
+            must(cgv_media_number(g, len, &number) && cgv_position(&r.window, number) < 400, "media of the window");
+            sent[cgv_position(&r.window, number)] = len - 12;
+            offered++;
+        }
         if (kind == 1)
             cgv_desk_media(&desk, &r, g, len);
         else if (kind == 2)
@@ -103,11 +110,13 @@ static void without_a_loss(const char *name)
         }
     }
     fclose(f);
+    for (len = 0; len < offered; len++)
+        must(cgv_receiver_length(&r, cgv_number(&r.window, len)) == sent[len] && sent[len] > 0, "the length of a packet");
     must(told > 0 && told == desk.counters.rebuilt, "packets are rebuilt, and each is told");
     must(desk.counters.late == told && cgv_recovered(&desk.counters) == 0, "each arrived afterwards: none is recovered");
     must(desk.counters.answers[CGV_REPEAT] == told && cgv_refused(&desk.counters) == told, "each was refused with 14, and nothing else was");
     must(desk.counters.received == offered && cgv_missing(&desk.counters) == 400 - offered, "received are all that were offered");
-    must(r.window.present == offered && desk.counters.alarms == 0, "present are all that were offered");
+    must(r.window.present == offered && desk.counters.alarms == 0 && desk.counters.spoilt == 0, "present are all that were offered");
     end_receiver(&r);
 }
 
@@ -153,7 +162,7 @@ static void at_a_stroke(void)
              cgv_desk_how(&desk, &r, at(4)) == CGV_HOW_REBUILT && cgv_desk_how(&desk, &r, at(16)) == CGV_HOW_NONE, "how they came");
     must(desk.counters.received + cgv_recovered(&desk.counters) + cgv_missing(&desk.counters) == N, "received, recovered and missing are all");
     cgv_counters_line(&desk.counters, line, sizeof line);
-    must(!strcmp(line, "received 15, recovered 1, late 2, missing 0, alarms 2, refused 7 (no. 6: 1, no. 13: 1, no. 14: 3, no. 15: 2)"), line);
+    must(!strcmp(line, "received 15, recovered 1, late 2, missing 0, alarms 2, spoilt 0, refused 7 (no. 6: 1, no. 13: 1, no. 14: 3, no. 15: 2)"), line);
     must(cgv_counters_line(&desk.counters, cut, sizeof cut) == strlen(line) && !strcmp(cut, "received "), "a line that is cut");
     must(cgv_counters_line(&desk.counters, NULL, 0) == strlen(line), "no room at all");
     cgv_counters_add(&sum, &desk.counters);
@@ -165,6 +174,39 @@ static void at_a_stroke(void)
     must(!cgv_desk_rebuilt(&desk, &r, &number) && cgv_missing(&desk.counters) == 16, "sixteen more to come");
     memset(&desk.counters, 0xff, sizeof desk.counters);
     must(cgv_counters_line(&desk.counters, line, sizeof line) + 1 <= sizeof line, "the longest line has room");
+    end_receiver(&r);
+}
+
+/* Parity that gives a packet which cannot be right: counted by the desk, and nothing is told. */
+static void spoilt(void)
+{
+    struct cgv_receiver r = new_receiver(N, 188, K);
+    struct cgv_desk desk;
+    struct cgv_counters sum;
+    uint8_t g[216];
+    char line[CGV_COUNTERS_LINE];
+    uint16_t number = 0;
+    int i;
+    memset(&desk, 0, sizeof desk);
+    memset(&sum, 0, sizeof sum);
+    must(cgv_receiver_open(&r, BASE, L, D, 188, N, K, 7).number == 0, "opens");
+    cgv_desk_begin(&desk, &r);
+    for (i = 1; i < N; i++)
+        if (i != 4)
+            cgv_desk_media(&desk, &r, g, media(g, at(i), byte_of(at(i))));
+    parity(g, 1, at(0));
+    g[15] = 1;
+    must(cgv_desk_row(&desk, &r, g, 216).spoilt == 1 && desk.counters.spoilt == 1, "a row that lies of the length");
+    parity(g, 0, at(0));
+    g[15] = 1;
+    must(cgv_desk_column(&desk, &r, g, 216).spoilt == 0, "a column of two that are missing is held");
+    must(cgv_desk_media(&desk, &r, g, media(g, at(4), byte_of(at(4)))).spoilt == 1 && desk.counters.spoilt == 2, "and is spoilt in hand");
+    must(desk.counters.rebuilt == 0 && !cgv_desk_rebuilt(&desk, &r, &number) && cgv_missing(&desk.counters) == 1, "nothing is rebuilt");
+    cgv_counters_line(&desk.counters, line, sizeof line);
+    must(!strcmp(line, "received 15, recovered 0, late 0, missing 1, alarms 0, spoilt 2, refused 0"), line);
+    cgv_counters_add(&sum, &desk.counters);
+    cgv_counters_add(&sum, &desk.counters);
+    must(sum.spoilt == 4, "sums");
     end_receiver(&r);
 }
 
@@ -249,9 +291,11 @@ static void made_up(void)
 
 int main(int argc, char **argv)
 {
-    must(argc == 2, "usage: desk CAPTURE");
-    without_a_loss(argv[1]);
+    must(argc == 3, "usage: desk CAPTURE MIXED");
+    without_a_loss(argv[1], 752);
+    without_a_loss(argv[2], 1316);
     at_a_stroke();
+    spoilt();
     neighbours();
     past_the_desk();
     made_up();

@@ -6,9 +6,9 @@
 #include <stdlib.h>
 #include <string.h>
 
-enum { L = 4, D = 4, P = 188, N = 16, K = 8, BASE = 65530, SPARE = 5 };
+enum { L = 4, D = 4, P = 188, N = 16, K = 8, BASE = 65530, SPARE = 5, LONGEST = 3 * P, LARGEST = 4 * P };
 
-static size_t calls, spare;
+static size_t calls, spare, spoilt; /* spoilt: what the next answer must say; then 0 again */
 static int reached[18];
 
 struct bench {
@@ -30,11 +30,13 @@ static struct cgv_store new_store(size_t n, size_t p, size_t k)
     struct cgv_store s;
     s.media_len = n * p + spare;
     s.timestamps_len = n + spare;
+    s.lengths_len = n + spare;
     s.marks_len = n + spare;
     s.parity_len = k * p + spare;
     s.records_len = k + spare;
     s.media = room(s.media_len);
     s.timestamps = room(s.timestamps_len * sizeof *s.timestamps);
+    s.lengths = room(s.lengths_len * sizeof *s.lengths);
     s.marks = room(s.marks_len);
     s.parity = room(s.parity_len);
     s.records = room(s.records_len * sizeof *s.records);
@@ -45,6 +47,7 @@ static void copy_store(struct cgv_store *to, const struct cgv_store *from)
 {
     memcpy(to->media, from->media, from->media_len);
     memcpy(to->timestamps, from->timestamps, from->timestamps_len * sizeof *from->timestamps);
+    memcpy(to->lengths, from->lengths, from->lengths_len * sizeof *from->lengths);
     memcpy(to->marks, from->marks, from->marks_len);
     memcpy(to->parity, from->parity, from->parity_len);
     memcpy(to->records, from->records, from->records_len * sizeof *from->records);
@@ -53,7 +56,8 @@ static void copy_store(struct cgv_store *to, const struct cgv_store *from)
 static int same_record(const struct cgv_record *a, const struct cgv_record *b)
 {
     return a->stream == b->stream && a->snbase == b->snbase && a->in_use == b->in_use &&
-           a->timestamp_recovery == b->timestamp_recovery;
+           a->timestamp_recovery == b->timestamp_recovery && a->length_recovery == b->length_recovery &&
+           a->payload_length == b->payload_length;
 }
 
 static int same_from(const struct cgv_store *a, const struct cgv_store *b, size_t n, size_t p, size_t k)
@@ -64,6 +68,7 @@ static int same_from(const struct cgv_store *a, const struct cgv_store *b, size_
             return 0;
     return !memcmp(a->media + n * p, b->media + n * p, a->media_len - n * p) &&
            !memcmp(a->timestamps + n, b->timestamps + n, (a->timestamps_len - n) * sizeof *a->timestamps) &&
+           !memcmp(a->lengths + n, b->lengths + n, (a->lengths_len - n) * sizeof *a->lengths) &&
            !memcmp(a->marks + n, b->marks + n, a->marks_len - n) &&
            !memcmp(a->parity + k * p, b->parity + k * p, a->parity_len - k * p);
 }
@@ -78,6 +83,7 @@ static void free_store(struct cgv_store s)
 {
     free(s.media);
     free(s.timestamps);
+    free(s.lengths);
     free(s.marks);
     free(s.parity);
     free(s.records);
@@ -100,7 +106,7 @@ static void end_bench(struct bench *b)
 
 static void fail(const char *what, struct cgv_answer a)
 {
-    fprintf(stderr, "%s: answered %u, count %zu\n", what, (unsigned)a.number, a.count);
+    fprintf(stderr, "%s: answered %u, count %zu, spoilt %zu\n", what, (unsigned)a.number, a.count, a.spoilt);
     exit(1);
 }
 
@@ -117,13 +123,33 @@ static void check(const char *what, struct bench *b, struct cgv_window w, struct
 {
     int all = number || !changes;
     calls++;
-    if (a.number != number || a.count != count)
+    if (a.number != number || a.count != count || a.spoilt != spoilt)
         fail(what, a);
+    spoilt = 0;
     reached[number] = 1;
     if (number && !same_window(a.window, w))
         fail("a refusal changed the window value", a);
-    if (!same_from(&b->r.store, &b->before, all ? 0 : N, P, all ? 0 : w.k))
+    if (!same_from(&b->r.store, &b->before, all ? 0 : w.n, w.p, all ? 0 : w.k))
         fail("something was touched that is not to be", a);
+}
+
+/* What an opening leaves. */
+static void all_zeros(const struct cgv_store *s, size_t n, size_t p, size_t k)
+{
+    static const struct cgv_record none;
+    size_t i;
+    for (i = 0; i < n * p; i++)
+        if (s->media[i])
+            broken("media after an opening");
+    for (i = 0; i < n; i++)
+        if (s->timestamps[i] || s->lengths[i] || s->marks[i])
+            broken("positions after an opening");
+    for (i = 0; i < k * p; i++)
+        if (s->parity[i])
+            broken("parity after an opening");
+    for (i = 0; i < k; i++)
+        if (!same_record(&s->records[i], &none))
+            broken("records after an opening");
 }
 
 static void opens(const char *what, struct bench *b, size_t l, size_t d, size_t p, size_t n, size_t k, uint32_t number)
@@ -134,8 +160,10 @@ static void opens(const char *what, struct bench *b, size_t l, size_t d, size_t 
     copy_store(&b->before, &b->r.store);
     a = cgv_receiver_open(&b->r, BASE, l, d, p, n, k, 7);
     if (!number)
-        zeros.k = k;
+        zeros.n = n, zeros.p = p, zeros.k = k;
     check(what, b, zeros, a, number, 0, 1);
+    if (!number)
+        all_zeros(&b->r.store, n, p, k);
 }
 
 typedef struct cgv_answer (*offer_fn)(struct cgv_receiver *, const uint8_t *, size_t);
@@ -173,30 +201,44 @@ static size_t rtp(uint8_t *g, uint8_t type, uint16_t number, uint32_t time)
     return CGV_MEDIA_HEADER;
 }
 
+/* In a window of the largest size packets have one to three transport packets, the rows of the first matrix 1 2 3 1, 3 1 2 3,
+ * 2 3 1 2 and 1 2 3 1, so that every group has a longest one of three, which is less than P; else one. */
+static size_t largest = P;
+
+static size_t length_of(uint16_t number)
+{
+    size_t i = (uint16_t)(number - BASE);
+    return largest == P ? P : P * (1 + (i + i / L) % 3);
+}
+
 static size_t media(uint8_t *g, uint16_t number)
 {
     size_t i;
     rtp(g, 33, number, stamp(number));
-    for (i = 0; i < P; i++)
+    for (i = 0; i < length_of(number); i++)
         g[12 + i] = byte_of(number, i);
-    return 12 + P;
+    return 12 + length_of(number);
 }
 
 static size_t parity(uint8_t *g, int row, uint16_t start)
 {
     uint16_t offset = row ? 1 : L, na = row ? L : D, j;
     uint32_t t = 0;
-    size_t i;
+    size_t i, length = 0, longest = 0;
     rtp(g, 96, 1, 2);
-    memset(g + 12, 0, 16 + P);
+    memset(g + 12, 0, 16 + largest);
     for (j = 0; j < na; j++) {
         uint16_t number = (uint16_t)(start + j * offset);
         t ^= stamp(number);
-        for (i = 0; i < P; i++)
+        length ^= length_of(number);
+        longest = length_of(number) > longest ? length_of(number) : longest;
+        for (i = 0; i < length_of(number); i++)
             g[28 + i] ^= byte_of(number, i);
     }
     g[12] = (uint8_t)(start >> 8);
     g[13] = (uint8_t)start;
+    g[14] = (uint8_t)(length >> 8);
+    g[15] = (uint8_t)length;
     g[16] = 0x80;
     g[20] = (uint8_t)(t >> 24);
     g[21] = (uint8_t)(t >> 16);
@@ -205,7 +247,7 @@ static size_t parity(uint8_t *g, int row, uint16_t start)
     g[24] = row ? 0x40 : 0;
     g[25] = (uint8_t)offset;
     g[26] = (uint8_t)na;
-    return 28 + P;
+    return 28 + longest;
 }
 
 /* ---- the cases */
@@ -223,6 +265,9 @@ static void set_ups(void)
     b.r.store.records_len = K - 1;
     opens("K - 1 records", &b, L, D, P, N, K, 4);
     b.r.store.records_len = K + spare;
+    b.r.store.lengths_len = N - 1;
+    opens("n - 1 lengths", &b, L, D, P, N, K, 4);
+    b.r.store.lengths_len = N + spare;
     opens("opens", &b, L, D, P, N, K, 0);
     offers("taken", &b, cgv_receiver_media, g, media(g, BASE), 0, 0);
     opens("refused while a window is open", &b, L, 3, P, N, K, 1);
@@ -269,7 +314,8 @@ static void helpers(void)
     snprintf(version, sizeof version, "%d.%d.%d", CGV_VERSION_MAJOR, CGV_VERSION_MINOR, CGV_VERSION_PATCH);
     if (strcmp(version, CGV_VERSION))
         broken("CGV_VERSION");
-    if (strcmp(cgv_message(18), "not a number of this library") || !strcmp(cgv_message(17), cgv_message(18)))
+    if (strcmp(cgv_message(9), "payload not whole transport packets up to the window's size") ||
+        strcmp(cgv_message(11), "payload type recovery not the profile's") || strcmp(cgv_message(18), "not a number of this library") || !strcmp(cgv_message(17), cgv_message(18)))
         broken("a number in words");
     opens("opens", &b, L, D, P, N, K, 0);
     offers("taken", &b, cgv_receiver_media, g, media(g, 2), 0, 0);
@@ -281,6 +327,19 @@ static void helpers(void)
     if (cgv_receiver_payload(&b.r, 2) != b.r.store.media + 8 * P || memcmp(cgv_receiver_payload(&b.r, 2), g + 12, P) ||
         cgv_receiver_payload(&b.r, 3) || cgv_receiver_payload(&b.r, BASE - 1))
         broken("the payload where it lies");
+    b.r.store.lengths[9] = P; /* of a missing packet: it means nothing */
+    if (cgv_receiver_length(&b.r, 2) != P || cgv_receiver_length(&b.r, 3) || cgv_receiver_length(&b.r, BASE - 1))
+        broken("the length of a payload");
+    b.r.store.lengths[8] = P + 1;
+    if (cgv_receiver_length(&b.r, 2) != P)
+        broken("a length above P");
+    b.r.store.lengths[8] = P - 1;
+    if (cgv_receiver_length(&b.r, 2) != P - 1)
+        broken("a length below P");
+    b.r.store.lengths_len = 8;
+    if (cgv_receiver_length(&b.r, 2))
+        broken("a length past the end of the part");
+    b.r.store.lengths_len = N + spare;
     parity(g, 0, 0x1234);
     if (cgv_parity_snbase(g, 27, &number) || number != 2 || !cgv_parity_snbase(g, 28, &number) || number != 0x1234)
         broken("the SNBase of a parity datagram");
@@ -309,6 +368,9 @@ static void media_offers(void)
     b.r.store.marks[3] = 2;
     offers("a mark of 2", &b, cgv_receiver_media, g, len, 5, 0);
     b.r.store.marks[3] = 0;
+    b.r.store.lengths_len = N - 1;
+    offers("n - 1 lengths", &b, cgv_receiver_media, g, len, 4, 0);
+    b.r.store.lengths_len = N + spare;
     offers("11 bytes", &b, cgv_receiver_media, g, 11, 6, 0);
     g[0] = 0x40;
     offers("version 1", &b, cgv_receiver_media, g, len, 7, 0);
@@ -317,6 +379,7 @@ static void media_offers(void)
     offers("type 96", &b, cgv_receiver_media, g, len, 8, 0);
     g[1] = 33;
     offers("a byte short", &b, cgv_receiver_media, g, len - 1, 9, 0);
+    offers("no payload", &b, cgv_receiver_media, g, 12, 9, 0);
     media(g, BASE - 1);
     offers("before the base", &b, cgv_receiver_media, g, len, 13, 0);
     media(g, BASE);
@@ -340,7 +403,12 @@ static void parity_offers(void)
     g[16] = 0x80 | 33;
     offers("PT recovery 33", &b, cgv_receiver_column, g, len, 11, 0);
     g[16] = 0x80;
+    offers("no payload", &b, cgv_receiver_column, g, 28, 9, 0);
     offers("a column on the row port", &b, cgv_receiver_row, g, len, 12, 0);
+    g[26] = 5, g[16] = 0x80 | 33;
+    offers("NA 5 and the PT recovery that fits it", &b, cgv_receiver_column, g, len, 11, 0);
+    g[16] = 0x80;
+    offers("NA 5", &b, cgv_receiver_column, g, len, 12, 0);
     parity(g, 0, (uint16_t)(BASE + 4));
     offers("a member outside", &b, cgv_receiver_column, g, len, 13, 0);
     parity(g, 1, BASE);
@@ -348,6 +416,8 @@ static void parity_offers(void)
     offers("again", &b, cgv_receiver_row, g, len, 14, 0);
     g[20] ^= 1;
     offers("and different", &b, cgv_receiver_row, g, len, 15, 0);
+    g[20] ^= 1, g[15] ^= 1;
+    offers("of another length recovery", &b, cgv_receiver_row, g, len, 15, 0);
     parity(g, 0, BASE);
     offers("no record free", &b, cgv_receiver_column, g, len, 16, 0);
     end_bench(&b);
@@ -356,57 +426,282 @@ static void parity_offers(void)
 /* The night: a column across the wrap, one packet lost; then case 11 of the bench, three rebuilt at a stroke. */
 static void rebuilds(void)
 {
-    struct bench b = new_bench(N, P, K);
-    uint8_t g[28 + P], out[28 + P + 1], again[28 + P];
+    struct bench b = new_bench(N, largest, K);
+    uint8_t g[28 + LARGEST], out[28 + LARGEST + 1], again[28 + LARGEST];
     struct cgv_answer a;
-    size_t i;
-    opens("opens", &b, L, D, P, N, K, 0);
+    size_t i, len;
+    opens("opens", &b, L, D, largest, N, K, 0);
     for (i = 0; i < N; i++) {
         if (i == 0 || i == 1 || i == 4 || i == 5)
             continue;
-        media(g, (uint16_t)(BASE + i));
-        offers("media", &b, cgv_receiver_media, g, 12 + P, 0, 0);
+        offers("media", &b, cgv_receiver_media, g, media(g, (uint16_t)(BASE + i)), 0, 0);
     }
     for (i = 0; i < 2; i++) {
-        parity(g, 0, (uint16_t)(BASE + i));
-        offers("column", &b, cgv_receiver_column, g, 28 + P, 0, 0);
-        parity(g, 1, (uint16_t)(BASE + 4 * i));
-        offers("row", &b, cgv_receiver_row, g, 28 + P, 0, 0);
+        offers("column", &b, cgv_receiver_column, g, parity(g, 0, (uint16_t)(BASE + i)), 0, 0);
+        offers("row", &b, cgv_receiver_row, g, parity(g, 1, (uint16_t)(BASE + 4 * i)), 0, 0);
     }
     copy_store(&b.before, &b.r.store);
     memset(out, 0xA5, sizeof out);
-    a = cgv_receiver_read(&b.r, BASE, out, 12 + P);
+    a = cgv_receiver_read(&b.r, BASE, out, 12 + largest);
     check("reading a missing packet", &b, b.r.window, a, 17, 0, 0);
-    a = cgv_receiver_write_column(&b.r, BASE, 7, 0, 0, out, 28 + P);
+    a = cgv_receiver_write_column(&b.r, BASE, 7, 0, 0, out, 28 + largest);
     check("parity over a missing packet", &b, b.r.window, a, 17, 0, 0);
-    a = cgv_receiver_read(&b.r, BASE, out, 11 + P);
+    a = cgv_receiver_read(&b.r, (uint16_t)(BASE + 2), out, 11 + largest);
     check("a short output", &b, b.r.window, a, 4, 0, 0);
+    a = cgv_receiver_write_row(&b.r, (uint16_t)(BASE + 8), 7, 0, 0, out, 27 + largest);
+    check("a short output for parity", &b, b.r.window, a, 4, 0, 0);
     for (i = 0; i < sizeof out; i++)
         if (out[i] != 0xA5)
             fail("a refusal wrote to the output", a);
-    media(g, (uint16_t)(BASE + 5));
-    offers("case 11", &b, cgv_receiver_media, g, 12 + P, 0, 3);
+    offers("case 11", &b, cgv_receiver_media, g, media(g, (uint16_t)(BASE + 5)), 0, 3);
     if (b.r.window.present != N || b.r.window.in_use != 0)
         fail("case 11: not all present", a);
     copy_store(&b.before, &b.r.store);
     for (i = 0; i < N; i++) {
         uint16_t number = (uint16_t)(BASE + i);
+        memset(out, 0xA5, sizeof out);
         a = cgv_receiver_read(&b.r, number, out, sizeof out);
-        check("reads", &b, b.r.window, a, 0, 12 + P, 0);
-        media(again, number);
+        len = media(again, number);
+        check("reads", &b, b.r.window, a, 0, len, 0);
         again[11] = 7;
-        if (memcmp(out, again, 12 + P) || out[12 + P] != 0xA5 || !cgv_receiver_has(&b.r, number))
+        if (memcmp(out, again, len) || out[len] != 0xA5 || out[sizeof out - 1] != 0xA5 || !cgv_receiver_has(&b.r, number) ||
+            cgv_receiver_length(&b.r, number) != len - 12 || memcmp(cgv_receiver_payload(&b.r, number), again + 12, len - 12))
             fail("a packet read out is not the one sent", a);
+        for (len -= 12; len < largest; len++)
+            if (cgv_receiver_payload(&b.r, number)[len])
+                fail("no zeros past a payload", a);
     }
     for (i = 0; i < 2; i++) {
         uint16_t start = (uint16_t)(BASE + 1);
         memset(out, 0xA5, sizeof out);
         a = i ? cgv_receiver_write_row(&b.r, start, 1, 2, 0, out, sizeof out) : cgv_receiver_write_column(&b.r, start, 1, 2, 0, out, sizeof out);
-        check("writes", &b, b.r.window, a, 0, 28 + P, 0);
-        parity(again, (int)i, start);
-        if (memcmp(out, again, 28 + P) || out[28 + P] != 0xA5)
+        len = parity(again, (int)i, start);
+        check("writes", &b, b.r.window, a, 0, len, 0);
+        if (memcmp(out, again, len) || out[len] != 0xA5 || out[sizeof out - 1] != 0xA5)
             fail("parity written is not that of the group", a);
     }
+    end_bench(&b);
+}
+
+/* A window of the largest size in which all but position 0 is present, whose packet has one transport packet; the first four
+ * positions have 1, 2, 3 and 1. */
+static struct bench all_but_one(void)
+{
+    struct bench b = new_bench(N, largest, K);
+    uint8_t g[28 + LARGEST];
+    size_t i;
+    opens("opens", &b, L, D, largest, N, K, 0);
+    for (i = 1; i < N; i++)
+        offers("media", &b, cgv_receiver_media, g, media(g, (uint16_t)(BASE + i)), 0, 0);
+    return b;
+}
+
+static void xor_length(uint8_t *g, size_t by)
+{
+    g[14] ^= (uint8_t)(by >> 8);
+    g[15] ^= (uint8_t)by;
+}
+
+/* Whether the bytes of a payload past a length are zeros up to the largest size. */
+static int zeros_past(const uint8_t *payload, size_t length)
+{
+    for (; length < largest; length++)
+        if (payload[length])
+            return 0;
+    return 1;
+}
+
+/* Parity that gives a packet which cannot be right, each way: taken in, not held, spoilt, and nothing of the store has changed. */
+static void spoils(void)
+{
+    static const struct {
+        const char *what;
+        size_t length, longer, byte; /* the length that comes out; so much longer than its group; a byte that is another one, or 0 */
+    } ways[] = {{"no bytes", 0, 0, 0},
+                {"not whole transport packets", P + 1, 0, 0},
+                {"a transport packet less a byte", P - 1, 0, 0},
+                {"longer than the parity, and not than P", LONGEST + P, 0, 0},
+                {"longer than P", LARGEST + P, P, 0},
+                {"the highest length", 65535, 0, 0},
+                {"the first byte past it", P, 0, P},
+                {"the last byte of the parity", P, 0, LONGEST - 1},
+                {"the last byte up to P", P, P, LARGEST - 1}};
+    struct bench b = all_but_one();
+    struct cgv_window w = b.r.window;
+    uint8_t g[28 + LARGEST];
+    size_t i, len;
+    if (length_of(BASE) != P || length_of((uint16_t)(BASE + 2)) != LONGEST)
+        broken("lengths of the test");
+    b.r.store.timestamps[0] = 5, b.r.store.lengths[0] = 6;
+    memset(b.r.store.media, 0x77, LARGEST);
+    memset(b.r.store.parity, 0x77, K * LARGEST);
+    b.r.store.records[0].snbase = 8; /* a free record, and what stands in it */
+    for (i = 0; i < sizeof ways / sizeof ways[0]; i++) {
+        len = parity(g, 1, BASE);
+        xor_length(g, P ^ ways[i].length);
+        if (ways[i].byte)
+            g[28 + ways[i].byte] ^= 0x80;
+        spoilt = 1;
+        offers(ways[i].what, &b, cgv_receiver_row, g, len + ways[i].longer, 0, 0);
+        if (!same_from(&b.r.store, &b.before, 0, 0, 0) || !same_window(b.r.window, w))
+            broken("a spoilt offer changed the store");
+    }
+    len = parity(g, 1, BASE);
+    xor_length(g, P);
+    for (i = 0; i < P; i++)
+        g[28 + i] ^= byte_of(BASE, i);
+    spoilt = 1;
+    offers("no bytes, and zeros past them", &b, cgv_receiver_row, g, len, 0, 0);
+    len = parity(g, 1, BASE);
+    spoilt = 1;
+    offers("parity shorter than a packet of its group", &b, cgv_receiver_row, g, len - P, 0, 0);
+    offers("longer than its group, by zeros", &b, cgv_receiver_row, g, len + P, 0, 1);
+    if (cgv_receiver_length(&b.r, BASE) != P || b.r.store.media[0] != byte_of(BASE, 0) || !zeros_past(b.r.store.media, P))
+        broken("the packet that was rebuilt");
+    end_bench(&b);
+}
+
+/* In hand: a column that lies and a good row wait for the same packet; the column goes, and the row gives it. */
+static void spoils_in_hand(void)
+{
+    struct bench b = new_bench(N, largest, K);
+    uint8_t g[28 + LARGEST];
+    size_t i, len;
+    opens("opens", &b, L, D, largest, N, K, 0);
+    memset(b.r.store.parity, 0x77, LARGEST);
+    len = parity(g, 0, BASE);
+    xor_length(g, 1);
+    offers("a column that lies", &b, cgv_receiver_column, g, len, 0, 0);
+    if (len != 28 + LONGEST || b.r.store.records[0].payload_length != LONGEST ||
+        b.r.store.records[0].length_recovery != (g[14] << 8 | g[15]) || !zeros_past(b.r.store.parity, LONGEST))
+        broken("the lengths of a record");
+    memset(b.r.store.parity + LONGEST, 0x77, P);
+    offers("again", &b, cgv_receiver_column, g, len, 14, 0);
+    memset(g + len, 0, P);
+    offers("again, and longer by zeros", &b, cgv_receiver_column, g, len + P, 15, 0);
+    offers("a row", &b, cgv_receiver_row, g, parity(g, 1, BASE), 0, 0);
+    for (i = 1; i < N; i++)
+        if (i != 2 && i != 4)
+            offers("media", &b, cgv_receiver_media, g, media(g, (uint16_t)(BASE + i)), 0, 0);
+    spoilt = 1;
+    offers("4: the column is spoilt", &b, cgv_receiver_media, g, media(g, (uint16_t)(BASE + 4)), 0, 0);
+    if (b.r.window.in_use != 1 || b.r.store.records[0].payload_length || b.r.store.records[0].length_recovery || b.r.store.marks[0])
+        broken("the column is released");
+    if (!zeros_past(b.r.store.parity, 0))
+        broken("the payload of the column is zeros");
+    offers("2: the row rebuilds", &b, cgv_receiver_media, g, media(g, (uint16_t)(BASE + 2)), 0, 1);
+    if (b.r.window.present != N || b.r.window.in_use != 0 || cgv_receiver_length(&b.r, BASE) != length_of(BASE))
+        broken("the row gives the packet");
+    end_bench(&b);
+}
+
+/* One media packet makes two ready at one position: the column comes first and is spoilt, and the search goes on with the row. */
+static void spoils_and_rebuilds(void)
+{
+    struct bench b = new_bench(N, largest, K);
+    uint8_t g[28 + LARGEST];
+    size_t i, len;
+    opens("opens", &b, L, D, largest, N, K, 0);
+    for (i = 2; i < N; i++)
+        if (i != 4)
+            offers("media", &b, cgv_receiver_media, g, media(g, (uint16_t)(BASE + i)), 0, 0);
+    len = parity(g, 0, BASE);
+    xor_length(g, length_of(BASE + 4));
+    offers("a column that lies", &b, cgv_receiver_column, g, len, 0, 0);
+    offers("a row", &b, cgv_receiver_row, g, parity(g, 1, BASE), 0, 0);
+    spoilt = 1;
+    offers("0: one spoilt, one rebuilt", &b, cgv_receiver_media, g, media(g, BASE), 0, 1);
+    if (b.r.window.present != N - 1 || b.r.window.in_use != 0 || cgv_receiver_has(&b.r, BASE + 4) || cgv_receiver_length(&b.r, BASE + 4) ||
+        cgv_receiver_length(&b.r, BASE + 1) != length_of(BASE + 1))
+        broken("4 stays missing, and 1 is rebuilt");
+    end_bench(&b);
+}
+
+/* Kept lengths: of present positions and records in use they are good ones, of others they are not looked at; bytes past them
+ * count as zero and stay. */
+static void kept_lengths(void)
+{
+    static const uint16_t bad[] = {0, 1, P - 1, P + 1, 204, LARGEST + P, 65535};
+    struct bench b = new_bench(N, largest, K);
+    uint8_t g[28 + LARGEST], out[28 + LARGEST];
+    struct cgv_answer a;
+    size_t i, len;
+    opens("opens", &b, L, D, largest, N, K, 0);
+    offers("a column", &b, cgv_receiver_column, g, parity(g, 0, BASE), 0, 0);
+    len = media(g, (uint16_t)(BASE + 3));
+    memset(b.r.store.media + 3 * LARGEST, 0x77, LARGEST);
+    offers("media", &b, cgv_receiver_media, g, len, 0, 0);
+    if (b.r.store.lengths[3] != len - 12 || !zeros_past(b.r.store.media + 3 * LARGEST, len - 12))
+        broken("a packet that is kept");
+    for (i = 0; i < sizeof bad / sizeof bad[0]; i++) {
+        b.r.store.lengths[3] = bad[i];
+        offers("a length of a present position", &b, cgv_receiver_media, g, len, 5, 0);
+        b.r.store.lengths[3] = (uint16_t)(len - 12);
+        b.r.store.records[0].payload_length = bad[i];
+        offers("a length of a record in use", &b, cgv_receiver_media, g, len, 5, 0);
+        b.r.store.records[0].payload_length = LONGEST;
+        b.r.store.lengths[4] = bad[i];
+        b.r.store.records[1].payload_length = bad[i];
+        b.r.store.records[0].length_recovery ^= bad[i];
+        offers("other lengths", &b, cgv_receiver_media, g, len, 14, 0);
+        b.r.store.records[0].length_recovery ^= bad[i];
+    }
+    memset(b.r.store.media + 3 * LARGEST + len - 12, 0xEE, LARGEST + 12 - len);
+    offers("bytes past the length", &b, cgv_receiver_media, g, len, 14, 0);
+    copy_store(&b.before, &b.r.store);
+    a = cgv_receiver_read(&b.r, (uint16_t)(BASE + 3), out, sizeof out);
+    check("reads", &b, b.r.window, a, 0, len, 0);
+    memset(g + len, 0, P);
+    if (len + P <= 12 + LARGEST)
+        offers("longer by zeros", &b, cgv_receiver_media, g, len + P, 15, 0);
+    else
+        broken("lengths of the test");
+    memset(b.r.store.parity + LONGEST, 0xEE, P);
+    for (i = 4; i < N; i += 4) {
+        offers("the column's others", &b, cgv_receiver_media, g, media(g, (uint16_t)(BASE + i)), 0, i == 12);
+        memset(b.r.store.media + i * LARGEST + b.r.store.lengths[i], 0xEE, LARGEST - b.r.store.lengths[i]);
+    }
+    if (cgv_receiver_length(&b.r, BASE) != length_of(BASE) || !zeros_past(b.r.store.media, length_of(BASE)) ||
+        b.r.store.media[4 * LARGEST + LARGEST - 1] != 0xEE)
+        broken("a packet rebuilt from others with bytes past their lengths");
+    for (i = 1; i < 3; i++)
+        offers("the row's others", &b, cgv_receiver_media, g, media(g, (uint16_t)(BASE + i)), 0, 0);
+    len = parity(g, 1, BASE);
+    copy_store(&b.before, &b.r.store);
+    a = cgv_receiver_write_row(&b.r, BASE, 1, 2, 0, out, sizeof out);
+    check("writes", &b, b.r.window, a, 0, len, 0);
+    if (memcmp(out, g, len))
+        fail("parity over a packet with bytes past its length", a);
+    end_bench(&b);
+}
+
+/* Of the other family, transport packets of 204 bytes: a row of 1, 2, 1 and 1 in a window of three, and its parity. */
+static void units_of_204(void)
+{
+    static const size_t units[] = {1, 2, 1, 1}, bad[] = {0, 188, 203, 205, 376, 407, 409, 816};
+    struct bench b = new_bench(N, 612, K);
+    uint8_t g[12 + 816], row[28 + 612];
+    size_t i;
+    opens("opens", &b, L, D, 612, N, K, 0);
+    memset(g, 9, sizeof g);
+    for (i = 0; i < 4; i++) {
+        rtp(g, 33, (uint16_t)(BASE + i), 0);
+        offers("whole units of 204", &b, cgv_receiver_media, g, 12 + 204 * units[i], 0, 0);
+        if (cgv_receiver_length(&b.r, (uint16_t)(BASE + i)) != 204 * units[i])
+            broken("a length of the other family");
+    }
+    copy_store(&b.before, &b.r.store);
+    check("the row", &b, b.r.window, cgv_receiver_write_row(&b.r, BASE, 1, 2, 3, row, sizeof row), 0, 28 + 408, 0);
+    opens("opens again", &b, L, D, 612, N, K, 0);
+    for (i = 1; i < 4; i++) {
+        rtp(g, 33, (uint16_t)(BASE + i), 0);
+        offers("the others", &b, cgv_receiver_media, g, 12 + 204 * units[i], 0, 0);
+    }
+    offers("the row", &b, cgv_receiver_row, row, 28 + 408, 0, 1);
+    rtp(g, 33, BASE, 0);
+    offers("the packet that it gave", &b, cgv_receiver_media, g, 12 + 204, 14, 0);
+    for (i = 0; i < sizeof bad / sizeof bad[0]; i++)
+        offers("no whole units of 204", &b, cgv_receiver_media, g, 12 + bad[i], 9, 0);
     end_bench(&b);
 }
 
@@ -420,6 +715,14 @@ int main(void)
         media_offers();
         parity_offers();
         rebuilds();
+        largest = LARGEST;
+        rebuilds();
+        spoils();
+        spoils_in_hand();
+        spoils_and_rebuilds();
+        kept_lengths();
+        units_of_204();
+        largest = P;
     }
     for (number = 0; number <= 17; number++)
         if (!reached[number]) {

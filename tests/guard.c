@@ -25,7 +25,7 @@ enum { PAGE = 4096, MOST = 140 * PAGE, CLAIM = 1000, STACK = 64 * 1024, STACK_MA
 enum { OPEN, MEDIA, COLUMN, ROW, READ, WRITE_COLUMN, WRITE_ROW, KINDS };
 static const char *const names[KINDS] = {"cgv_open", "cgv_media", "cgv_column", "cgv_row", "cgv_read", "cgv_write_column", "cgv_write_row"};
 
-static unsigned long long calls, windows, seed, numbers[CGV_NUMBERS], helpers, claims;
+static unsigned long long calls, windows, seed, numbers[CGV_NUMBERS], helpers, claims, spoilt;
 static const char *doing = "setting up";
 
 static void fail(const char *what)
@@ -73,7 +73,7 @@ struct part {
     int at_end;
 };
 
-enum { P_MEDIA, P_TIMESTAMPS, P_MARKS, P_PARITY, P_RECORDS, P_DATAGRAM, P_OUT, PARTS, STORE = 5 };
+enum { P_MEDIA, P_TIMESTAMPS, P_LENGTHS, P_MARKS, P_PARITY, P_RECORDS, P_DATAGRAM, P_OUT, PARTS, STORE = 6 };
 static struct part parts[PARTS];
 
 static void make_parts(void)
@@ -222,7 +222,7 @@ static struct cgv_store store_in(int view, const size_t *len)
         at[i] = view == 2 ? parts[i].plain : parts[i].at[view];
     {
         struct cgv_store s = {at[P_MEDIA], len[P_MEDIA], (uint32_t *)(void *)at[P_TIMESTAMPS], len[P_TIMESTAMPS],
-                              at[P_MARKS], len[P_MARKS], at[P_PARITY], len[P_PARITY],
+                              (uint16_t *)(void *)at[P_LENGTHS], len[P_LENGTHS], at[P_MARKS], len[P_MARKS], at[P_PARITY], len[P_PARITY],
                               (struct cgv_record *)(void *)at[P_RECORDS], len[P_RECORDS]};
         return s;
     }
@@ -259,15 +259,19 @@ static struct cgv_answer attack(int kind, struct cgv_window value, uint16_t numb
     c.s = store_in(plain.a.number || kind >= READ, len);
     c.out = out->at[plain.a.number != 0];
     make_on_stack(&c);
-    if (c.a.number != plain.a.number || c.a.count != plain.a.count || !same_window(c.a.window, plain.a.window))
+    if (c.a.number != plain.a.number || c.a.count != plain.a.count || c.a.spoilt != plain.a.spoilt ||
+        !same_window(c.a.window, plain.a.window))
         fail("another answer than in plain memory");
     if (c.a.number >= CGV_NUMBERS || (c.a.number && (c.a.count || !same_window(c.a.window, kind == OPEN ? zeros : value))))
         fail("a refusal with a count or another window value");
+    if (c.a.spoilt && (c.a.number || kind == OPEN || kind >= READ))
+        fail("spoilt by a refusal, or by a call that is no offer");
     numbers[c.a.number]++;
+    spoilt += c.a.spoilt;
     if (kind >= READ && !c.a.number)
         same_as_plain(out);
 #ifdef FUZZ
-    met[(kind * CGV_NUMBERS + (int)c.a.number) * 8 + (int)(c.a.count < 7 ? c.a.count : 7)] = 1;
+    met[(kind * CGV_NUMBERS + (int)c.a.number) * 8 + (int)(c.a.spoilt ? 7 : c.a.count < 6 ? c.a.count : 6)] = 1;
 #endif
     return c.a;
 }
@@ -286,7 +290,9 @@ static void attack_helpers(struct cgv_window value)
         payload = cgv_receiver_payload(&r, number);
         if (payload && (!cgv_receiver_has(&r, number) || payload < r.store.media || payload + value.p > r.store.media + r.store.media_len))
             fail("a payload that is not in the media part");
-        helpers += 2;
+        if (cgv_receiver_length(&r, number) > value.p || (cgv_receiver_length(&r, number) && !cgv_receiver_has(&r, number)))
+            fail("a length above P, or of a missing packet");
+        helpers += 3;
     }
     cgv_desk_begin(&other, &r);
     other.untold = 3;
@@ -331,37 +337,61 @@ static void write_rtp(uint8_t *g, uint8_t type, uint16_t number, uint32_t time)
     memcpy(g, header, sizeof header);
 }
 
-static void add_payload(uint8_t *g, uint16_t number, size_t p)
+static size_t unit(void) { return w.p % 188 ? 204 : 188; }
+
+/* The length of a packet, up to p: whole units, fewer in every other packet. */
+static size_t length_of(uint16_t number, size_t p)
 {
-    size_t i;
-    for (i = 0; i < p; i++)
+    size_t units = p / unit();
+    return number % 2 || units < 2 ? p : unit() * (1 + number / 2 % units);
+}
+
+/* Adds the payload of a packet to what stands there, and gives its length. */
+static size_t add_payload(uint8_t *g, uint16_t number, size_t p)
+{
+    size_t i, len = length_of(number, p);
+    for (i = 0; i < len; i++)
         g[i] ^= (uint8_t)(number * 31u + i * 7u + (number >> 5));
+    return len;
 }
 
 /* Lays the datagram of a kind in its place, right as the window has it or altered. */
 static void write_datagram(int kind, uint16_t number)
 {
     static uint8_t g[CGV_PARITY_DATAGRAM_MAX + 64];
-    size_t header = kind == MEDIA ? 12 : 28, p = w.p <= CGV_PAYLOAD_MAX ? w.p : CGV_PAYLOAD_MAX, len = header + p, i, j;
+    size_t header = kind == MEDIA ? 12 : 28, p = w.p <= CGV_PAYLOAD_MAX ? w.p : CGV_PAYLOAD_MAX, len = 0, length = 0, i, j;
     memset(g, 0, sizeof g);
     if (kind == MEDIA) {
         write_rtp(g, 33, number, stamp(number));
-        add_payload(g + 12, number, p);
+        len = 12 + add_payload(g + 12, number, p);
     } else {
         size_t offset = kind == ROW ? 1 : w.l, na = kind == ROW ? w.l : w.d;
         uint32_t time = 0;
         write_rtp(g, 96, (uint16_t)draw(65536), 5);
         for (j = 0; j < na && j < 20; j++) {
             time ^= stamp((uint16_t)(number + j * offset));
-            add_payload(g + 28, (uint16_t)(number + j * offset), p);
+            i = add_payload(g + 28, (uint16_t)(number + j * offset), p);
+            length ^= i;
+            len = i > len ? i : len;
         }
+        len += 28;
         g[12] = (uint8_t)(number >> 8), g[13] = (uint8_t)number;
-        g[14] = (uint8_t)(na % 2 ? p >> 8 : 0), g[15] = (uint8_t)(na % 2 ? p : 0);
+        g[14] = (uint8_t)(length >> 8), g[15] = (uint8_t)length;
         g[16] = 0x80 | (na % 2 ? 33 : 0);
         g[20] = (uint8_t)(time >> 24), g[21] = (uint8_t)(time >> 16), g[22] = (uint8_t)(time >> 8), g[23] = (uint8_t)time;
         g[24] = kind == ROW ? 0x40 : 0, g[25] = (uint8_t)offset, g[26] = (uint8_t)na;
     }
-    switch (draw(24)) {
+    switch (draw(28)) {
+    case 6:
+        if (len >= 28)
+            g[14 + draw(2)] ^= (uint8_t)(1u << draw(8)); /* of parity, the length recovery */
+        break;
+    case 7:
+        if (len >= 28)
+            g[14] ^= (uint8_t)(unit() >> 8), g[15] ^= (uint8_t)unit();
+        break;
+    case 8: len = len > header + unit() ? len - unit() : len; break;
+    case 9: len = len + unit() <= header + p ? len + unit() : len; break;
     case 0: g[draw(header)] ^= (uint8_t)(1u << draw(8)); break;
     case 1: g[draw(len)] ^= (uint8_t)(1u << draw(8)); break;
     case 2: len = (size_t)draw(len + 1); break;
@@ -380,22 +410,23 @@ static void write_datagram(int kind, uint16_t number)
 
 /* ---- the attack */
 
-/* Lays the five parts: their need or a little less, lent at their length, or as more than there is. */
+static const size_t size_of[STORE] = {1, 4, 2, 1, 1, sizeof(struct cgv_record)}; /* an element, in bytes */
+
+/* Lays the six parts: their need or a little less, lent at their length, or as more than there is. */
 static void lay_store(void)
 {
     size_t need[STORE], room = MOST, i;
-    static const size_t of[STORE] = {1, 4, 1, 1, 8};
     need[P_MEDIA] = w.n * w.p;
-    need[P_TIMESTAMPS] = need[P_MARKS] = w.n;
+    need[P_TIMESTAMPS] = need[P_LENGTHS] = need[P_MARKS] = w.n;
     need[P_PARITY] = w.k * w.p;
     need[P_RECORDS] = w.k;
     for (i = 0; i < STORE; i++) {
         size_t elements = need[i];
-        if (elements > room / of[i] || w.n > 1000 || w.p > 2000 || w.k > 1000)
+        if (elements > room / size_of[i] || w.n > 1000 || w.p > 2000 || w.k > 1000)
             elements = (size_t)draw(2000);
         if (one_in(60))
             elements = one_in(2) ? elements - (elements > 0) : (size_t)draw(elements + 1);
-        place(&parts[i], elements * of[i], one_in(2));
+        place(&parts[i], elements * size_of[i], one_in(2));
         lengths[i] = honest[i] = elements;
         if (elements >= need[i] && one_in(3)) {
             lengths[i] += (size_t)draw(CLAIM);
@@ -411,14 +442,14 @@ static void set_up(void)
     w.ssrc = (uint32_t)draw(65536);
     w.d = pick(4, 20);
     w.l = pick(1, 100 / w.d < 20 ? 100 / w.d : 20);
-    w.p = (one_in(2) ? 188 : 204) * (one_in(4) ? pick(1, 7) : 1);
+    w.p = (one_in(2) ? 188 : 204) * (one_in(2) ? pick(1, one_in(4) ? 7 : 3) : 1);
     w.n = pick(w.l * w.d, one_in(8) ? 400 : w.l * w.d * 2 < 400 ? w.l * w.d * 2 : 400);
     w.k = one_in(2) ? pick(1, 128) : pick(1, 6);
     if (one_in(16))
         w = made_up(w);
 }
 
-/* A byte of marks or records is changed from outside, in all three places, or changed back. */
+/* A byte of marks, lengths, records or payloads is changed from outside, in all three places, or changed back. */
 static void change(size_t at, int part, uint8_t by)
 {
     if (parts[part].size == 0)
@@ -430,8 +461,8 @@ static void change(size_t at, int part, uint8_t by)
 
 static void step(void)
 {
-    int kind = (int)pick(MEDIA, WRITE_ROW), disorder = one_in(40), part = one_in(2) ? P_MARKS : P_RECORDS;
-    size_t at = (size_t)draw(4096), output;
+    int kind = (int)pick(MEDIA, WRITE_ROW), disorder = one_in(30), part = (int)pick(P_MEDIA, P_RECORDS);
+    size_t at = (size_t)draw(part == P_MEDIA || part == P_PARITY ? MOST : 4096), output;
     uint8_t by = (uint8_t)(1u << draw(8));
     struct cgv_window value = one_in(20) ? made_up(w) : w;
     uint16_t number = (uint16_t)(w.base + (one_in(20) ? draw(65536) : draw(w.n && w.n < 65536 ? w.n : 400)));
@@ -484,6 +515,11 @@ static void one_window(void)
     }
     for (i = 0; i < STORE; i++)
         same_as_plain(&parts[i]);
+    if (one_in(2)) { /* a part that is shorter than when the window was opened */
+        i = pick(P_MEDIA, P_LENGTHS);
+        honest[i] -= honest[i] ? 1 + draw(honest[i]) : 0;
+        place(&parts[i], honest[i] * size_of[i], one_in(2));
+    }
     attack_helpers(one_in(2) ? w : made_up(w));
 }
 
@@ -529,6 +565,10 @@ int main(int argc, char **argv)
     } while (seconds > 0 ? (double)(now.tv_sec - start.tv_sec) < seconds : calls < 1000000);
     for (i = 0; i < CGV_NUMBERS; i++)
         rarest = numbers[i] < numbers[rarest] ? i : rarest;
+    if (!spoilt) {
+        fprintf(stderr, "guard: nothing was spoilt\n");
+        return 1;
+    }
     if (!numbers[rarest]) {
         fprintf(stderr, "guard: number %zu was not reached: %s\n", rarest, cgv_message((uint32_t)rarest));
         return 1;
@@ -538,8 +578,8 @@ int main(int argc, char **argv)
         return 1;
     }
     printf("guard: %llu calls over %llu windows, %llu lengths that claimed more than there is, %llu helpers: nothing touched that must not be;\n"
-           "  every number from 0 to 17, the rarest, %zu, %llu times; a call needed %zu bytes of stack at most\n",
-           calls, windows, claims, helpers, rarest, numbers[rarest], stack_used());
+           "  every number from 0 to 17, the rarest, %zu, %llu times; %llu parity packets spoilt; a call needed %zu bytes of stack at most\n",
+           calls, windows, claims, helpers, rarest, numbers[rarest], spoilt, stack_used());
     return 0;
 }
 #endif

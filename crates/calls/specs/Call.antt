@@ -15,12 +15,12 @@ use Rattle.window.specs.declared.Record.{Record}
 use Rattle.window.specs.declared.Window.{Window}
 use Rattle.window.specs.Record.{blank}
 use Rattle.window.specs.Limits.{leastMissing, rows, parityRoom, setUpTests}
-use Rattle.window.specs.Store.{Store, shortStore, recordAt}
+use Rattle.window.specs.Store.{Store, shortStore, lengthAt, recordAt}
 use Rattle.window.specs.Group.{position, group, inside, isMissing, missing}
 use Rattle.window.specs.Order.{inUse, disorder}
 use Rattle.calls.specs.Datagram.{mediaPacket, Outer, parityPacket}
-pub use Rattle.calls.specs.Content.{same, sameContent, contentAt}
-use Rattle.calls.specs.Content.{xorContents, recoveryAt}
+pub use Rattle.calls.specs.Content.{same, sameContent, sameRecovery, contentAt}
+use Rattle.calls.specs.Content.{recoveryAt, recoveryOver}
 use Rattle.calls.specs.State.{State, scene}
 use Rattle.calls.specs.Settle.{settle}
 use Rattle.calls.specs.Accept.{contentOf, recoveryOf, acceptMedia, acceptParity}
@@ -57,6 +57,7 @@ cleared w s =
     record {
       media = zeroed (w .n * w .p) (s .media);
       timestamps = zeroed (w .n) (s .timestamps);
+      lengths = zeroed (w .n) (s .lengths);
       marks = zeroed (w .n) (s .marks);
       parity = zeroed (rows w * w .p) (s .parity);
       records = wiped (rows w) (s .records);
@@ -73,7 +74,7 @@ openTests w s = setUpTests w ++ ((4, shortStore w s) ∷ [])
 -- an opening: the store cleared and the window value, or the refusal
 unfoldable pub opened : Window → Store → Outcome
 opened w s =
-    cond (eqb (first (openTests w s)) 0) (record { answer = Done 0; window = w; store = cleared w s })
+    cond (eqb (first (openTests w s)) 0) (record { answer = Done 0 0; window = w; store = cleared w s })
     (record { answer = Refused (first (openTests w s)); window = noWindow; store = s })
 
 -- ---- offers (01, "Taking a packet in")
@@ -86,7 +87,7 @@ standingTests w s room need = setUpTests w ++ ((4, shortStore w s || ltb room ne
 abbrev pub mediaPlaceTests : Window → List ℕ → Store → List (ℕ × Bool)
 mediaPlaceTests w g s =
     (13, not (ltb (position w (sequenceNumber g)) (w .n)))
-    ∷ (14, not (isMissing (s .marks) (position w (sequenceNumber g))) && sameContent (contentAt w s (position w (sequenceNumber g))) (contentOf g))
+    ∷ (14, not (isMissing (s .marks) (position w (sequenceNumber g))) && sameContent (contentAt w s (position w (sequenceNumber g))) (contentOf (w .p) g))
     ∷ (15, not (isMissing (s .marks) (position w (sequenceNumber g))))
     ∷ []
 
@@ -100,7 +101,7 @@ holds w s stream snbase r = inUse w s r && (eqb (recordAt s r .stream) stream &&
 
 -- and holds it with the same recovery
 abbrev pub holdsSame : Window → Store → (stream : ℕ) → List ℕ → ℕ → Bool
-holdsSame w s stream g r = holds w s stream (snbase g) r && sameContent (recoveryAt w s r) (recoveryOf g)
+holdsSame w s stream g r = holds w s stream (snbase g) r && sameRecovery (recoveryAt w s r) (recoveryOf (w .p) g)
 
 -- 13 to 16 for a parity datagram: a member lies outside; it is in hand, the same; it is in hand, with a difference;
 -- as many are missing as parity in hand waits for, and there is no room
@@ -120,13 +121,13 @@ parityOfferTests w stream g s = standingTests w s 0 0 ++ parityTests stream (w .
 abbrev pub refused : ℕ → Window → Store → Outcome
 refused number w s = record { answer = Refused number; window = w; store = s }
 
--- an accepted packet is settled; the count is of packets rebuilt
+-- an accepted packet is settled; the counts are of packets rebuilt and of parity packets found spoilt
 abbrev pub settled : State → Outcome
-settled x = record { answer = Done (settle x .rebuilt); window = settle x .window; store = settle x .store }
+settled x = record { answer = Done (settle x .rebuilt) (settle x .spoilt); window = settle x .window; store = settle x .store }
 
--- a call begins: nothing rebuilt yet
+-- a call begins: nothing rebuilt and nothing spoilt yet
 abbrev pub begun : Window → Store → State
-begun w s = scene w s 0
+begun w s = scene w s 0 0
 
 -- a media offer: accepted and settled, or refused
 unfoldable pub offeredMedia : Window → List ℕ → Store → Outcome
@@ -166,7 +167,7 @@ unfoldable pub readOut : Window → (number : ℕ) → Store → (out : List ℕ
 readOut w number s out =
     cond (eqb (first (readTests w number s out)) 0)
     (record {
-      answer = Done (rtpHeaderSize + w .p);
+      answer = Done (rtpHeaderSize + lengthAt s (position w number)) 0;
       window = w;
       out = over (mediaPacket number (w .ssrc) (contentAt w s (position w number))) out;
     })
@@ -183,14 +184,17 @@ writeTests w stream snbase s out = standingTests w s (length out) (parityHeaderS
 
 -- the parity packet of a group that is present
 abbrev pub parityOf : Window → Outer → (stream snbase : ℕ) → Store → List ℕ
-parityOf w o stream snbase s =
-    parityPacket o stream (w .l) (w .d) (w .p) snbase (xorContents (w .p) (contentAt w s) (group w stream snbase))
+parityOf w o stream snbase s = parityPacket o stream (w .l) (w .d) snbase (recoveryOver w s (group w stream snbase))
 
 -- writing the parity of a group: its datagram, or the refusal; store and window value stay (01, "Taking a packet in")
 unfoldable pub wroteParity : (stream : ℕ) → Window → (snbase : ℕ) → Outer → Store → (out : List ℕ) → Written
 wroteParity stream w snbase o s out =
     cond (eqb (first (writeTests w stream snbase s out)) 0)
-    (record { answer = Done (parityHeaderSize + w .p); window = w; out = over (parityOf w o stream snbase s) out })
+    (record {
+      answer = Done (parityHeaderSize + recoveryOver w s (group w stream snbase) .size) 0;
+      window = w;
+      out = over (parityOf w o stream snbase s) out;
+    })
     (record { answer = Refused (first (writeTests w stream snbase s out)); window = w; out = out })
 
 -- of a column

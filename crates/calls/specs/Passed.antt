@@ -11,6 +11,7 @@ use Rattle.sequence.specs.Lists.{upTo, any, any-false, false-any, or-split}
 use Rattle.rtp.specs.Rtp.{rtpHeaderSize, sequenceNumber}
 use Rattle.rtp.specs.Fec.{parityHeaderSize, snbase, dBit, offset, na, offsetOf, naOf}
 use Rattle.rtp.specs.Faults.{noRow, mediaTests, parityTests}
+use Rattle.rtp.specs.Length.{goodLength}
 use Rattle.window.specs.declared.Window.{Window}
 use Rattle.window.specs.Limits.{leastMissing, rows, parityRoom}
 use Rattle.window.specs.Store.{Store}
@@ -21,14 +22,14 @@ use Rattle.calls.specs.Standing.{Standing, standing-good}
 -- no refusal of a media offer applied
 pub record MediaPassed (w : Window) (g : List ℕ) (s : Store) : Type 0 where
   pub standing : Standing w s 0 0
-  pub size : length (drop rtpHeaderSize g) ≡ w .p
+  pub size : goodLength (w .p) (length (drop rtpHeaderSize g)) ≡ true
   pub in-window : position w (sequenceNumber g) < w .n
   pub new : isMissing (s .marks) (position w (sequenceNumber g)) ≡ true
 
 -- no refusal of a parity offer on the port of a stream applied
 pub record ParityPassed (w : Window) (stream : ℕ) (g : List ℕ) (s : Store) : Type 0 where
   pub standing : Standing w s 0 0
-  pub size : length (drop parityHeaderSize g) ≡ w .p
+  pub size : goodLength (w .p) (length (drop parityHeaderSize g)) ≡ true
   pub permitted : noRow stream (w .l) ≡ false
   pub in-window : inside w stream (snbase g) ≡ true
   pub new : any (holds w s stream (snbase g)) (upTo (rows w)) ≡ false
@@ -59,9 +60,9 @@ pub none-first : (ts : List (ℕ × Bool)) → None ts → first ts ≡ 0
 none-first [] n = sym first-end
 none-first ((k, t) ∷ ts) n = sym (first-past 0 k t ts (n .0) (sym (none-first ts (n .1))))
 
--- a payload part of p bytes
-payload-size : (headers p : ℕ) (g : List ℕ) → ltb (length g) headers ≡ false → not (eqb (length g - headers) p) ≡ false → length (drop headers g) ≡ p
-payload-size headers p g a b = rw (length-drop headers g) (eqb-true (length g - headers) p (not-false (eqb (length g - headers) p) b))
+-- a payload part of good length
+payload-size : (headers p : ℕ) (g : List ℕ) → not (goodLength p (length g - headers)) ≡ false → goodLength p (length (drop headers g)) ≡ true
+payload-size headers p g b = rw (length-drop headers g) (not-false (goodLength p (length g - headers)) b)
 
 -- of two tests joined by "and" that fail, the second fails where the first holds
 not-both : (a b : Bool) → (a && b) ≡ false → a ≡ true → b ≡ false
@@ -76,7 +77,7 @@ media-passed w g s e =
     (first-back (standingTests w s 0 0 ++ mediaTests (w .p) g) (mediaPlaceTests w g s) (tt, (tt, (tt, (tt, (tt, (tt, (tt, (tt, (tt, tt))))))))) e) in
     record {
       standing = standing-good w s 0 0 (first-front (standingTests w s 0 0) (mediaTests (w .p) g) front);
-      size = payload-size rtpHeaderSize (w .p) g (wire .0) (wire .1 .1 .1 .0);
+      size = payload-size rtpHeaderSize (w .p) g (wire .1 .1 .1 .0);
       in-window = ltb-true (position w (sequenceNumber g)) (w .n) (not-false _ (place .0));
       new = not-false _ (place .1 .1 .0);
     }
@@ -91,7 +92,7 @@ parity-passed w stream g s e =
     (first-back (standingTests w s 0 0 ++ tests) (parityPlaceTests w stream g s) (tt, (tt, (tt, (tt, (tt, (tt, (tt, (tt, (tt, (tt, (tt, (tt, tt)))))))))))) e) in
     record {
       standing = standing-good w s 0 0 (first-front (standingTests w s 0 0) tests front);
-      size = payload-size parityHeaderSize (w .p) g (wire .0) (wire .1 .1 .1 .0);
+      size = payload-size parityHeaderSize (w .p) g (wire .1 .1 .1 .0);
       permitted = or-split (not (eqb (dBit g) stream) || not (eqb (offset g) (offsetOf stream (w .l))) || not (eqb (na g) (naOf stream (w .l) (w .d)))) (noRow stream (w .l)) (wire .1 .1 .1 .1 .1 .1 .0) .1;
       in-window = not-false (inside w stream (snbase g)) (place .0);
       new = place .1 .1 .0;

@@ -17,7 +17,7 @@ use Rattle.window.specs.Store.{Store, recordAt}
 use Rattle.window.specs.Group.{group, missing}
 use Rattle.window.specs.Order.{inUse, missingAt}
 use Rattle.window.specs.InOrder.{InOrder}
-use Rattle.calls.specs.Content.{Content}
+use Rattle.calls.specs.Content.{Recovery}
 use Rattle.calls.specs.State.{State, scene, heldRecord, hold}
 use Rattle.calls.specs.Settle.{ready, better, nextBelow, next, roundBy, round, settle}
 
@@ -46,15 +46,15 @@ waits-not true n h = ne-eqb n 1 (λ e. omega (arith, h refl))
 waits-not false n h = refl
 
 module _ (w : Window) (s : Store) (o : InOrder w s) where
-  pub order-rest : (b : ℕ) → settle (scene w s b) ≡ scene w s b
-  order-rest b = settle-rest (scene w s b) (none-ready (scene w s b) (λ r l. waits-not (inUse w s r) (length (missingAt w s r)) (λ u. o .records-wait r l u .waits-for)))
+  pub order-rest : (b q : ℕ) → settle (scene w s b q) ≡ scene w s b q
+  order-rest b q = settle-rest (scene w s b q) (none-ready (scene w s b q) (λ r l. waits-not (inUse w s r) (length (missingAt w s r)) (λ u. o .records-wait r l u .waits-for)))
 
   -- one packet more in hand, with enough of its group missing
-  pub held-rest : (f stream snbase : ℕ) (c : Content) (b : ℕ) → leastMissing ≤ length (missing (s .marks) (group w stream snbase)) → f < length (s .records) → settle (hold f stream snbase c (scene w s b)) ≡ hold f stream snbase c (scene w s b)
-  held-rest f stream snbase c b many fits = settle-rest x (none-ready x (λ r l. waits-not (inUse (x .window) (x .store) r) (length (missingAt (x .window) (x .store) r)) (waits r l (eqb r f) refl)))
+  pub held-rest : (f stream snbase : ℕ) (c : Recovery) (b q : ℕ) → leastMissing ≤ length (missing (s .marks) (group w stream snbase)) → f < length (s .records) → settle (hold f stream snbase c (scene w s b q)) ≡ hold f stream snbase c (scene w s b q)
+  held-rest f stream snbase c b q many fits = settle-rest x (none-ready x (λ r l. waits-not (inUse (x .window) (x .store) r) (length (missingAt (x .window) (x .store) r)) (waits r l (eqb r f) refl)))
     where
       x : State
-      x = hold f stream snbase c (scene w s b)
+      x = hold f stream snbase c (scene w s b q)
 
       waits : (r : ℕ) → r < w .k → (t : Bool) → eqb r f ≡ t → inUse (x .window) (x .store) r ≡ true → leastMissing ≤ length (missingAt (x .window) (x .store) r)
       waits r l true e u = rw (eqb-true r f e, getD-set-same (s .records) f (heldRecord stream snbase c) blank fits) many

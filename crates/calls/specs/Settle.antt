@@ -11,7 +11,7 @@ use Rattle.window.specs.Group.{position}
 use Rattle.window.specs.Limits.{rows}
 use Rattle.window.specs.Order.{inUse, groupAt, missingAt}
 use Rattle.calls.specs.Content.{recoveryAt}
-use Rattle.calls.specs.State.{State, rebuild, release}
+use Rattle.calls.specs.State.{State, rebuild, fitsOver, countSpoilt, release}
 
 -- a record in use with exactly one packet of its group missing
 abbrev pub ready : State → ℕ → Bool
@@ -52,14 +52,19 @@ releaseBelow (suc r) x = releaseSpent r (releaseBelow r x)
 unfoldable pub releaseAll : State → State
 releaseAll x = releaseBelow (rows (x .window)) x
 
+-- what a record gives for its missing packet fits it
+abbrev pub fitsAt : State → ℕ → Bool
+fitsAt x r = fitsOver x (groupAt (x .window) (x .store) r) (recoveryAt (x .window) (x .store) r)
+
 -- a record rebuilds its missing packet
 abbrev pub rebuildBy : ℕ → State → State
-rebuildBy r x = rebuild (groupAt (x .window) (x .store) r) (recoveryAt (x .window) (x .store) r) (headOr 0 (missingAt (x .window) (x .store) r)) x
+rebuildBy r x =
+    rebuild (groupAt (x .window) (x .store) r) (recoveryAt (x .window) (x .store) r .content) (headOr 0 (missingAt (x .window) (x .store) r)) x
 
--- a record, if there is one, rebuilds, and what is spent is released
+-- a record, if there is one, rebuilds, and what is spent is released; or it is spoilt, and is released itself
 abbrev pub roundBy : Option ℕ → State → State
 roundBy none x = x
-roundBy (some r) x = releaseAll (rebuildBy r x)
+roundBy (some r) x = cond (fitsAt x r) (releaseAll (rebuildBy r x)) (countSpoilt (release r x))
 
 -- one round, by the next record
 unfoldable pub round : State → State

@@ -1,4 +1,5 @@
 -- What a call works on, and the single changes that it makes (01, "Taking a packet in").
+use mathlib.Core.Bool.{Bool}
 use mathlib.Core.List.{List}
 use Prim.Native.Nat.{ℕ, _+_, _*_, _-_}
 use lib.ListN.{set, replicate}
@@ -7,17 +8,18 @@ use Rattle.window.specs.declared.Record.{Record}
 use Rattle.window.specs.declared.Window.{Window}
 use Rattle.window.specs.Record.{blank}
 use Rattle.window.specs.Store.{Store}
-use Rattle.calls.specs.Content.{Content, contentOver}
+use Rattle.calls.specs.Content.{Content, Recovery, contentOver, fits}
 
--- the window value, the store, and how many packets this call has rebuilt
+-- the window value, the store, how many packets this call has rebuilt, and how many parity packets it found spoilt
 pub record State : Type 0 where
   pub window : Window
   pub store : Store
   pub rebuilt : ℕ
+  pub spoilt : ℕ
 
--- a state of its three parts
-abbrev pub scene : Window → Store → ℕ → State
-scene w s rebuilt = record { window = w; store = s; rebuilt = rebuilt }
+-- a state of its four parts
+abbrev pub scene : Window → Store → (rebuilt spoilt : ℕ) → State
+scene w s rebuilt spoilt = record { window = w; store = s; rebuilt = rebuilt; spoilt = spoilt }
 
 -- the window value with other counts
 abbrev pub recount : Window → (present used : ℕ) → Window
@@ -30,6 +32,7 @@ put w s i c =
     record {
       media = paste (s .media) (i * w .p) (c .payload) (w .p);
       timestamps = set (s .timestamps) i (c .timestamp);
+      lengths = set (s .lengths) i (c .length);
       marks = set (s .marks) i 1;
       parity = s .parity;
       records = s .records;
@@ -41,6 +44,7 @@ putRecord w s r v payload =
     record {
       media = s .media;
       timestamps = s .timestamps;
+      lengths = s .lengths;
       marks = s .marks;
       parity = paste (s .parity) (r * w .p) payload (w .p);
       records = set (s .records) r v;
@@ -53,6 +57,7 @@ storeMedia i c x =
       window = recount (x .window) (x .window .present + 1) (x .window .«in_use»);
       store = put (x .window) (x .store) i c;
       rebuilt = x .rebuilt;
+      spoilt = x .spoilt;
     }
 
 -- the one missing packet of a group is rebuilt: the exclusive-or of the recovery and of what is held of the group
@@ -62,19 +67,37 @@ rebuild group recovery i x =
       window = recount (x .window) (x .window .present + 1) (x .window .«in_use»);
       store = put (x .window) (x .store) i (contentOver (x .window) (x .store) group recovery);
       rebuilt = x .rebuilt + 1;
+      spoilt = x .spoilt;
     }
 
+-- what a parity packet gives for the one missing packet of its group fits it: it is not spoilt
+abbrev pub fitsOver : State → (group : List ℕ) → Recovery → Bool
+fitsOver x group recovery = fits (x .window) recovery (contentOver (x .window) (x .store) group (recovery .content))
+
+-- one spoilt parity packet more; the packet that it was to rebuild stays missing
+abbrev pub countSpoilt : State → State
+countSpoilt x = scene (x .window) (x .store) (x .rebuilt) (x .spoilt + 1)
+
 -- the record of a parity packet in hand
-abbrev pub heldRecord : (stream snbase : ℕ) → Content → Record
-heldRecord stream snbase c = record { stream = stream; «in_use» = 1; snbase = snbase; «timestamp_recovery» = c .timestamp }
+abbrev pub heldRecord : (stream snbase : ℕ) → Recovery → Record
+heldRecord stream snbase recovery =
+    record {
+      stream = stream;
+      «in_use» = 1;
+      snbase = snbase;
+      «timestamp_recovery» = recovery .content .timestamp;
+      «length_recovery» = recovery .content .length;
+      «payload_length» = recovery .size;
+    }
 
 -- a parity packet goes into a free record
-abbrev pub hold : (r stream snbase : ℕ) → Content → State → State
-hold r stream snbase c x =
+abbrev pub hold : (r stream snbase : ℕ) → Recovery → State → State
+hold r stream snbase recovery x =
     record {
       window = recount (x .window) (x .window .present) (x .window .«in_use» + 1);
-      store = putRecord (x .window) (x .store) r (heldRecord stream snbase c) (c .payload);
+      store = putRecord (x .window) (x .store) r (heldRecord stream snbase recovery) (recovery .content .payload);
       rebuilt = x .rebuilt;
+      spoilt = x .spoilt;
     }
 
 -- a record and its payload are set to zero
@@ -84,4 +107,5 @@ release r x =
       window = recount (x .window) (x .window .present) (x .window .«in_use» - 1);
       store = putRecord (x .window) (x .store) r blank (replicate (x .window .p) 0);
       rebuilt = x .rebuilt;
+      spoilt = x .spoilt;
     }

@@ -8,15 +8,16 @@ use receiver::Step;
 use window::Record;
 ghost use Prim.Native.Nat.{_≤_};
 
-// The parts have one element more than 16 positions and 8 records need; of the parity payloads all but one of the bytes that
-// 9 would need, and so of the media payloads, unless they are lent whole.
+// The parts have one element more than 16 positions and 8 records of 188 bytes need; of the parity payloads all but one of
+// the bytes that 9 would need, and so of the media payloads, unless they are lent whole.
 pub struct Bench {
     pub whole: bool,
     pub media: [u8; 3196],
     pub timestamps: [u32; 17],
+    pub lengths: [u16; 17],
     pub marks: [u8; 17],
     pub parity: [u8; 1691],
-    pub words: [u32; 30],
+    pub words: [u32; 40],
     pub answer: Answer,
     pub receiver: Receiver,
 }
@@ -24,14 +25,14 @@ pub struct Bench {
 // What was answered, and the bytes lent for output after it.
 pub struct Wrote {
     pub answer: Answer,
-    pub out: [u8; 216],
+    pub out: [u8; 404],
 }
 
 // How many records there are.
 const RECORDS: usize = 9;
 
 // Row i at slot i, with a mark, and one number in the other fields of its record.
-fn filled_row(rows: [u32; 30], i: usize, mark: u8, other: u8) -> [u32; 30]
+fn filled_row(rows: [u32; 40], i: usize, mark: u8, other: u8) -> [u32; 40]
     requires { ⌜ i ≤ 8 ⌝ }
 {
     let mut words = rows;
@@ -40,13 +41,15 @@ fn filled_row(rows: [u32; 30], i: usize, mark: u8, other: u8) -> [u32; 30]
         in_use: mark,
         snbase: other as u16,
         timestamp_recovery: other as u32,
+        length_recovery: other as u16,
+        payload_length: other as u16,
     };
     table::put_row(&mut words, i, i as u32, 0, v);
     words
 }
 
 // The first rows, each filled so.
-fn filled_rows(rows: [u32; 30], count: usize, mark: u8, other: u8) -> [u32; 30]
+fn filled_rows(rows: [u32; 40], count: usize, mark: u8, other: u8) -> [u32; 40]
     requires { ⌜ count ≤ 9 ⌝ }
 {
     let mut words = rows;
@@ -73,6 +76,7 @@ fn bytes_of(all: usize, whole: bool) -> usize
 pub fn open(l: usize, d: usize, p: usize, n: usize, k: usize, whole: bool) -> Bench {
     let mut media = [85u8; 3196];
     let mut timestamps = [85u32; 17];
+    let mut lengths = [85u16; 17];
     let mut marks = [8u8; 17];
     let mut parity = [85u8; 1691];
     let bytes = bytes_of(3196, whole);
@@ -86,11 +90,12 @@ pub fn open(l: usize, d: usize, p: usize, n: usize, k: usize, whole: bool) -> Be
         k,
         &mut media[0..bytes],
         &mut timestamps,
+        &mut lengths,
         &mut marks,
         &mut parity,
         RECORDS,
     );
-    let old = filled_rows([85u32; 30], RECORDS, 8, 85);
+    let old = filled_rows([85u32; 40], RECORDS, 8, 85);
     let words = filled_rows(old, opening.records, 0, 0);
     let answer = opening.answer;
     let receiver = opening.receiver;
@@ -98,6 +103,7 @@ pub fn open(l: usize, d: usize, p: usize, n: usize, k: usize, whole: bool) -> Be
         whole,
         media,
         timestamps,
+        lengths,
         marks,
         parity,
         words,
@@ -114,17 +120,17 @@ fn rows_of(w: Receiver) -> usize {
 
 // The bytes to lend for output: all, unless a step says how many.
 fn room(what: u64, value: u16) -> usize
-    ensures { λ r. ⌜ r ≤ 216 ⌝ }
+    ensures { λ r. ⌜ r ≤ 404 ⌝ }
 {
     if what == script::OUTPUT {
-        if value <= 216 {
+        if value <= 404 {
             return value as usize;
         }
     }
-    216
+    404
 }
 
-// A datagram goes to a port: m media, t timestamps, k marks, p parity, h rows.
+// A datagram goes to a port: m media, t timestamps, s lengths, k marks, p parity, h rows.
 fn hand_in(
     w: Receiver,
     port: u64,
@@ -132,19 +138,20 @@ fn hand_in(
     whole: bool,
     m: &mut [u8],
     t: &mut [u32; 17],
+    s: &mut [u16; 17],
     k: &mut [u8; 17],
     p: &mut [u8; 1691],
-    h: &mut [u32; 30],
+    h: &mut [u32; 40],
 ) -> Step {
     let e = bytes_of(m.len(), whole);
     let rows = rows_of(w);
     if port == script::MEDIA {
-        return w.media(g, &mut m[0..e], t, k, p, h, rows, RECORDS);
+        return w.media(g, &mut m[0..e], t, s, k, p, h, rows, RECORDS);
     }
     if port == script::COLUMN {
-        return w.column(g, &mut m[0..e], t, k, p, h, rows, RECORDS);
+        return w.column(g, &mut m[0..e], t, s, k, p, h, rows, RECORDS);
     }
-    w.row(g, &mut m[0..e], t, k, p, h, rows, RECORDS)
+    w.row(g, &mut m[0..e], t, s, k, p, h, rows, RECORDS)
 }
 
 // A datagram is offered on a port.
@@ -153,6 +160,7 @@ pub fn offer(bench: Bench, port: u64, g: &[u8]) -> Bench {
     let whole = bench.whole;
     let mut media = bench.media;
     let mut timestamps = bench.timestamps;
+    let mut lengths = bench.lengths;
     let mut marks = bench.marks;
     let mut parity = bench.parity;
     let mut words = bench.words;
@@ -163,6 +171,7 @@ pub fn offer(bench: Bench, port: u64, g: &[u8]) -> Bench {
         whole,
         &mut media,
         &mut timestamps,
+        &mut lengths,
         &mut marks,
         &mut parity,
         &mut words,
@@ -173,6 +182,7 @@ pub fn offer(bench: Bench, port: u64, g: &[u8]) -> Bench {
         whole,
         media,
         timestamps,
+        lengths,
         marks,
         parity,
         words,
@@ -189,20 +199,21 @@ fn hand_out(
     whole: bool,
     m: &[u8],
     t: &[u32],
+    s: &[u16],
     k: &[u8],
     p: &[u8],
-    h: &mut [u32; 30],
+    h: &mut [u32; 40],
     out: &mut [u8],
 ) -> Step {
     let e = bytes_of(m.len(), whole);
     let rows = rows_of(w);
     if kind == script::READ {
-        return w.read(number, &m[0..e], t, k, p, h, rows, RECORDS, out);
+        return w.read(number, &m[0..e], t, s, k, p, h, rows, RECORDS, out);
     }
     if kind == script::WRITE_COLUMN {
-        return w.write_column(number, 7, 0, 0, &m[0..e], t, k, p, h, rows, RECORDS, out);
+        return w.write_column(number, 7, 0, 0, &m[0..e], t, s, k, p, h, rows, RECORDS, out);
     }
-    w.write_row(number, 7, 0, 0, &m[0..e], t, k, p, h, rows, RECORDS, out)
+    w.write_row(number, 7, 0, 0, &m[0..e], t, s, k, p, h, rows, RECORDS, out)
 }
 
 // A packet is read, or parity written.
@@ -210,10 +221,11 @@ pub fn write(bench: Bench, kind: u64, number: u16, what: u64, value: u16) -> Wro
     let w = bench.receiver;
     let media = bench.media;
     let timestamps = bench.timestamps;
+    let lengths = bench.lengths;
     let marks = bench.marks;
     let parity = bench.parity;
     let mut words = bench.words;
-    let mut out = [0u8; 216];
+    let mut out = [0u8; 404];
     let bytes = room(what, value);
     let step = hand_out(
         w,
@@ -222,6 +234,7 @@ pub fn write(bench: Bench, kind: u64, number: u16, what: u64, value: u16) -> Wro
         bench.whole,
         &media,
         &timestamps,
+        &lengths,
         &marks,
         &parity,
         &mut words,
@@ -241,6 +254,12 @@ fn changed(v: Record, kind: u64, value: u16) -> Record {
         script::IN_USE => {
             next.in_use = rtp::low(value);
         }
+        script::HELD_RECOVERY => {
+            next.length_recovery = value;
+        }
+        script::HELD_LENGTH => {
+            next.payload_length = value;
+        }
         _ => {
             next.snbase = value;
         }
@@ -249,7 +268,7 @@ fn changed(v: Record, kind: u64, value: u16) -> Record {
 }
 
 // The rows with the record of one of them changed.
-fn changed_row(rows: [u32; 30], i: usize, kind: u64, value: u16) -> [u32; 30]
+fn changed_row(rows: [u32; 40], i: usize, kind: u64, value: u16) -> [u32; 40]
     requires { ⌜ i ≤ 8 ⌝ }
 {
     let mut words = rows;
@@ -267,9 +286,17 @@ pub fn poke(b: Bench, kind: u64, number: u16, value: u16) -> Bench {
         if i < 17 {
             bench.marks[i] = rtp::low(value);
         }
+    } else if kind == script::KEPT_LENGTH {
+        if i < 17 {
+            bench.lengths[i] = value;
+        }
     } else if kind == script::PAYLOAD {
         if i < 3196 {
             bench.media[i] = rtp::low(value);
+        }
+    } else if kind == script::PARITY {
+        if i < 1691 {
+            bench.parity[i] = rtp::low(value);
         }
     } else if i < RECORDS {
         let words = bench.words;

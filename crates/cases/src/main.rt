@@ -4,8 +4,8 @@ mod script;
 mod show;
 mod wire;
 
-use answer::Answer;
 use bench::Bench;
+ghost use Prim.Native.Nat.{_≤_};
 
 // A number that a byte holds, or 0.
 fn small(x: usize) -> u8 {
@@ -13,14 +13,28 @@ fn small(x: usize) -> u8 {
 }
 
 // The datagram of a step, by the window's L and D.
-fn made(b: Bench, kind: u64, number: u16, what: u64, value: u16) -> [u8; 228] {
+fn made(b: Bench, kind: u64, number: u16, what: u64, value: u16) -> [u8; 592] {
     let r = b.receiver;
     let w = r.window;
     let l = small(w.l);
     if what == script::MEMBERS {
-        return wire::datagram(kind, number, l, rtp::low(value));
+        return wire::datagram(w.p, kind, number, l, rtp::low(value));
     }
-    wire::altered(wire::datagram(kind, number, l, small(w.d)), what, value)
+    wire::altered(
+        wire::datagram(w.p, kind, number, l, small(w.d)),
+        what,
+        value,
+    )
+}
+
+// Its length.
+fn length(b: Bench, kind: u64, number: u16, what: u64, value: u16) -> usize
+    ensures { λ r. ⌜ r ≤ 592 ⌝ }
+{
+    let r = b.receiver;
+    let w = r.window;
+    let payload = wire::payload_length(w.p, kind, number, small(w.l), small(w.d));
+    wire::length(kind, payload, what, value)
 }
 
 // The last answer is shown.
@@ -32,18 +46,15 @@ fn answered(b: Bench) {
 // A datagram is offered, and the answer shown.
 fn offered(b: Bench, kind: u64, number: u16, what: u64, value: u16) -> Bench {
     let g = made(b, kind, number, what, value);
-    let length = wire::length(kind, what, value);
-    let after = bench::offer(b, script::port_of(kind, what), &g[0..length]);
+    let bytes = length(b, kind, number, what, value);
+    let after = bench::offer(b, script::port_of(kind, what), &g[0..bytes]);
     answered(after);
     after
 }
 
 // What was written, against what the sender sends.
-fn compare(a: Answer, kind: u64, out: &[u8; 216], g: &[u8; 228]) {
-    if answer::number(a) != 0 {
-        return;
-    }
-    if xor::same_at(out, 0, g, 0, 216) {
+fn compare(kind: u64, out: &[u8; 404], g: &[u8; 592]) {
+    if xor::same_at(out, 0, g, 0, 404) {
         show::text(b", as sent:");
     } else {
         show::text(b", not as sent:");
@@ -53,12 +64,14 @@ fn compare(a: Answer, kind: u64, out: &[u8; 216], g: &[u8; 228]) {
 
 // A packet is read or parity written, and shown.
 fn written(b: Bench, kind: u64, number: u16, what: u64, value: u16) {
-    let g = made(b, kind, number, what, value);
     let wrote = bench::write(b, kind, number, what, value);
     let a = wrote.answer;
     let out = wrote.out;
     show::answer(a);
-    compare(a, kind, &out, &g);
+    if answer::number(a) == 0 {
+        let g = made(b, kind, number, what, value);
+        compare(kind, &out, &g);
+    }
 }
 
 // The marks are shown.
@@ -66,6 +79,13 @@ fn shown(b: Bench) {
     let marks = b.marks;
     let words = b.words;
     show::marks(&marks, words);
+}
+
+// The lengths are shown.
+fn shown_lengths(b: Bench) {
+    let kept = b.lengths;
+    let words = b.words;
+    show::lengths(&kept, words);
 }
 
 // A call is made, and its line shown.
@@ -93,6 +113,10 @@ fn step(b: Bench, sum: u64) -> Bench {
     }
     if kind == script::SHOW {
         shown(b);
+        return b;
+    }
+    if kind == script::LENGTHS {
+        shown_lengths(b);
         return b;
     }
     show::set(kind, number, value);
@@ -244,6 +268,51 @@ fn column_first() {
     lent(4, 4, 188, 17, 8, true, &script::COLUMN_FIRST);
 }
 
+// ---- request 1: lengths do differ
+
+// A case in a window of columns of four neighbours, with payloads of one or two units.
+fn mixed(title: &[u8], steps: &[u64]) {
+    show::text(title);
+    case(1, 4, 376, 8, 4, steps);
+}
+
+// Lengths rebuilt, read and written.
+fn lengths_differ() {
+    mixed(
+        b"lengths do differ: 376 at 65530, 65532 and 65533, 188 elsewhere\n",
+        &script::MIXED,
+    );
+}
+
+// Refusals 9, 11, 14 and 15.
+fn lengths_refused() {
+    mixed(b"lengths refused\n", &script::LENGTHS_REFUSED);
+}
+
+// Each way to be spoilt, offered and in hand.
+fn spoilt() {
+    mixed(b"spoilt as it is offered\n", &script::SPOILT_OFFERED);
+    mixed(b"spoilt in hand, by lengths\n", &script::SPOILT_HELD);
+    mixed(
+        b"spoilt in hand, by a byte and by a length\n",
+        &script::SPOILT_BYTES,
+    );
+    mixed(
+        b"two spoilt in hand, and the search goes on\n",
+        &script::SEARCH_GOES_ON,
+    );
+}
+
+// What counts as zero.
+fn past_lengths() {
+    mixed(b"other bytes past a kept length\n", &script::PAST_LENGTHS);
+}
+
+// Refusal 5.
+fn lengths_disorder() {
+    mixed(b"kept lengths out of order\n", &script::LENGTHS_DISORDER);
+}
+
 fn main() {
     groups();
     case_10_11();
@@ -259,4 +328,9 @@ fn main() {
     true_first();
     lie_first();
     column_first();
+    lengths_differ();
+    lengths_refused();
+    spoilt();
+    past_lengths();
+    lengths_disorder();
 }

@@ -35,16 +35,27 @@ pub const SNBASE: u64 = 10 * DONE;
 
 pub const PAYLOAD: u64 = 11 * DONE;
 
+pub const KEPT_LENGTH: u64 = 12 * DONE;
+
+pub const HELD_RECOVERY: u64 = 13 * DONE;
+
+pub const HELD_LENGTH: u64 = 14 * DONE;
+
+pub const PARITY: u64 = 15 * DONE;
+
 // Somebody else makes up a number of the window value.
-pub const VALUE_L: u64 = 12 * DONE;
+pub const VALUE_L: u64 = 16 * DONE;
 
-pub const VALUE_P: u64 = 13 * DONE;
+pub const VALUE_P: u64 = 17 * DONE;
 
-pub const VALUE_N: u64 = 14 * DONE;
+pub const VALUE_N: u64 = 18 * DONE;
 
-pub const VALUE_K: u64 = 15 * DONE;
+pub const VALUE_K: u64 = 19 * DONE;
 
-pub const VALUE_PRESENT: u64 = 16 * DONE;
+pub const VALUE_PRESENT: u64 = 20 * DONE;
+
+// The lengths of the positions and of the records are shown.
+pub const LENGTHS: u64 = 21 * DONE;
 
 // A byte of the datagram is another.
 pub const BYTE_0: u64 = 1 * DIFFERS;
@@ -75,6 +86,8 @@ pub const BYTE_199: u64 = 200 * DIFFERS;
 
 pub const BYTE_215: u64 = 216 * DIFFERS;
 
+pub const BYTE_403: u64 = 404 * DIFFERS;
+
 // The datagram is of another length, and where said zeros behind the RTP header, or from the first byte on.
 pub const LENGTH: u64 = 1001 * DIFFERS;
 
@@ -91,6 +104,9 @@ pub const ON_MEDIA_PORT: u64 = 1005 * DIFFERS;
 pub const ON_COLUMN_PORT: u64 = 1006 * DIFFERS;
 
 pub const ON_ROW_PORT: u64 = 1007 * DIFFERS;
+
+// Its length recovery is another.
+pub const RECOVERS: u64 = 1009 * DIFFERS;
 
 // So many bytes are lent for output.
 pub const OUTPUT: u64 = 1008 * DIFFERS;
@@ -165,7 +181,7 @@ pub const MEDIA_PORT: [u64; 18] = [
 ];
 
 // Refusals of parity, in the order of their numbers.
-pub const PARITY_PORTS: [u64; 33] = [
+pub const PARITY_PORTS: [u64; 32] = [
     COLUMN + 65530 + LENGTH + 27 * IS,
     COLUMN + 65530 + ZEROS + 20 * IS,
     COLUMN + 65530 + ZEROS + 28 * IS,
@@ -181,7 +197,6 @@ pub const PARITY_PORTS: [u64; 33] = [
     COLUMN + 65530 + BYTE_24 + 1 * IS,
     COLUMN + 65530 + BYTE_27 + 1 * IS,
     COLUMN + 65530 + BYTE_16 + 161 * IS,
-    COLUMN + 65530 + BYTE_15 + 188 * IS,
     COLUMN + 65530 + MEMBERS + 5 * IS,
     COLUMN + 65530 + MEMBERS + 6 * IS,
     COLUMN + 65530 + BYTE_24 + 64 * IS,
@@ -218,7 +233,7 @@ pub const OUTPUTS: [u64; 13] = [
     WRITE_ROW + 65530,
 ];
 
-// Rows where L is 3: the recoveries are judged by NA 3, and before the profile.
+// Rows where L is 3: PT recovery is judged by NA 3, and before the profile; length recovery is not judged.
 pub const NO_ROWS: [u64; 7] = [
     ROW + 65530 + BYTE_16 + 128 * IS,
     ROW + 65530 + BYTE_15 + 0 * IS,
@@ -230,7 +245,7 @@ pub const NO_ROWS: [u64; 7] = [
 ];
 
 // A store out of order; of a free record and of a missing position only the mark is looked at.
-pub const DISORDER: [u64; 40] = [
+pub const DISORDER: [u64; 42] = [
     COLUMN + 65530,
     COLUMN + 65531,
     MARK + 3 + 2 * IS,
@@ -266,9 +281,11 @@ pub const DISORDER: [u64; 40] = [
     READ + 65535,
     SHOW,
     MARK + 4 + 1 * IS,
+    KEPT_LENGTH + 4 + 188 * IS,
     VALUE_PRESENT + 6 * IS,
     MEDIA + 1,
     MARK + 8 + 1 * IS,
+    KEPT_LENGTH + 8 + 188 * IS,
     VALUE_PRESENT + 8 * IS,
     MEDIA + 0,
 ];
@@ -374,4 +391,195 @@ pub const COLUMN_FIRST: [u64; 15] = [
     READ + 65535,
     MEDIA + 65535,
     SHOW,
+];
+
+// Payloads of one and of two units in one window. What is rebuilt, read and written has its own length, and a parity packet
+// that of the longest of its group; an output needs room for P all the same.
+pub const MIXED: [u64; 24] = [
+    MEDIA + 65530,
+    MEDIA + 65532,
+    MEDIA + 65533,
+    LENGTHS,
+    COLUMN + 65530,
+    READ + 65530,
+    READ + 65531,
+    READ + 65531 + OUTPUT + 388 * IS,
+    READ + 65531 + OUTPUT + 387 * IS,
+    MEDIA + 65535,
+    MEDIA + 0,
+    COLUMN + 65534,
+    LENGTHS,
+    MEDIA + 1,
+    LENGTHS,
+    READ + 65534,
+    MEDIA + 65531,
+    MEDIA + 65534,
+    WRITE_COLUMN + 65530,
+    WRITE_COLUMN + 65531,
+    WRITE_COLUMN + 65533,
+    WRITE_COLUMN + 65534,
+    WRITE_COLUMN + 65534 + OUTPUT + 404 * IS,
+    WRITE_COLUMN + 65534 + OUTPUT + 403 * IS,
+];
+
+// A length that is not whole units up to P is 9; any length recovery will do; 14 and 15 tell lengths apart where not a byte
+// differs but zeros at the end.
+pub const LENGTHS_REFUSED: [u64; 26] = [
+    MEDIA + 65534 + LENGTH + 12 * IS,
+    MEDIA + 65534 + LENGTH + 199 * IS,
+    MEDIA + 65534 + LENGTH + 201 * IS,
+    MEDIA + 65534 + LENGTH + 216 * IS,
+    MEDIA + 65534 + LENGTH + 576 * IS,
+    COLUMN + 65530 + LENGTH + 28 * IS,
+    COLUMN + 65530 + LENGTH + 403 * IS,
+    COLUMN + 65530 + LENGTH + 592 * IS,
+    MEDIA + 65534,
+    MEDIA + 65534 + LENGTH + 388 * IS,
+    MEDIA + 65534,
+    MEDIA + 65535 + LENGTH + 388 * IS,
+    MEDIA + 65535,
+    MEDIA + 65535 + LENGTH + 388 * IS,
+    COLUMN + 65530 + BYTE_16 + 161 * IS,
+    COLUMN + 65530 + RECOVERS + 1 * IS,
+    COLUMN + 65530,
+    COLUMN + 65530 + RECOVERS + 1 * IS,
+    COLUMN + 65534,
+    COLUMN + 65534 + LENGTH + 404 * IS,
+    COLUMN + 65534,
+    COLUMN + 65533 + LENGTH + 216 * IS,
+    COLUMN + 65533,
+    COLUMN + 65533 + LENGTH + 216 * IS,
+    SHOW,
+    LENGTHS,
+];
+
+// Offered parity that is spoilt: it gives 65531 a length of 0, of 189, of three units, a byte past its 188, at the end of the
+// parity and past the parity's own; then it gives 65534 two units, and has one itself.
+pub const SPOILT_OFFERED: [u64; 19] = [
+    MEDIA + 65530,
+    MEDIA + 65532,
+    MEDIA + 65533,
+    COLUMN + 65530 + RECOVERS + 376 * IS,
+    COLUMN + 65530 + RECOVERS + 453 * IS,
+    COLUMN + 65530 + RECOVERS + 844 * IS,
+    COLUMN + 65530 + BYTE_403 + 255 * IS,
+    COLUMN + 65530 + LENGTH + 216 * IS,
+    SHOW,
+    MEDIA + 65535,
+    MEDIA + 0,
+    MEDIA + 1,
+    COLUMN + 65534 + RECOVERS + 452 * IS,
+    SHOW,
+    COLUMN + 65530,
+    COLUMN + 65534,
+    READ + 65531,
+    READ + 65534,
+    SHOW,
+];
+
+// Parity in hand that is spoilt: it gives 65531 a length of 0, and 65534 two units, where it has one itself.
+pub const SPOILT_HELD: [u64; 12] = [
+    MEDIA + 65530,
+    MEDIA + 65532,
+    COLUMN + 65530 + RECOVERS + 376 * IS,
+    MEDIA + 0,
+    MEDIA + 1,
+    COLUMN + 65534 + RECOVERS + 452 * IS,
+    SHOW,
+    MEDIA + 65533,
+    MEDIA + 65535,
+    SHOW,
+    LENGTHS,
+    COLUMN + 65530,
+];
+
+// The same: it gives 65531 a byte past its length, and 65534 a length of 184.
+pub const SPOILT_BYTES: [u64; 12] = [
+    MEDIA + 65530,
+    MEDIA + 65532,
+    COLUMN + 65530 + BYTE_403 + 255 * IS,
+    MEDIA + 0,
+    MEDIA + 1,
+    COLUMN + 65534 + RECOVERS + 4 * IS,
+    SHOW,
+    MEDIA + 65533,
+    MEDIA + 65535,
+    SHOW,
+    LENGTHS,
+    COLUMN + 65530,
+];
+
+// Three columns get ready at once for 65533: two are spoilt, and the search goes on to the third.
+pub const SEARCH_GOES_ON: [u64; 12] = [
+    MEDIA + 65530,
+    MEDIA + 65531,
+    MEDIA + 65534,
+    MEDIA + 65535,
+    COLUMN + 65530 + RECOVERS + 188 * IS,
+    COLUMN + 65531 + RECOVERS + 8 * IS,
+    COLUMN + 65532,
+    SHOW,
+    MEDIA + 65532,
+    SHOW,
+    READ + 65533,
+    MEDIA + 65533,
+];
+
+// Other bytes past a kept length count as zero: 14, reading, rebuilding, writing, and parity in hand.
+pub const PAST_LENGTHS: [u64; 21] = [
+    MEDIA + 65531,
+    PAYLOAD + 564 + 255 * IS,
+    PAYLOAD + 751 + 255 * IS,
+    MEDIA + 65531,
+    READ + 65531,
+    COLUMN + 65534,
+    PARITY + 188 + 255 * IS,
+    PARITY + 375 + 255 * IS,
+    COLUMN + 65534,
+    MEDIA + 65530,
+    MEDIA + 65532,
+    COLUMN + 65530,
+    READ + 65533,
+    WRITE_COLUMN + 65530,
+    MEDIA + 65535,
+    MEDIA + 0,
+    MEDIA + 1,
+    READ + 65534,
+    WRITE_COLUMN + 65531,
+    WRITE_COLUMN + 65534,
+    SHOW,
+];
+
+// A kept length that is not whole units up to P is 5; not so of a missing position, of a free record, nor a length recovery.
+pub const LENGTHS_DISORDER: [u64; 30] = [
+    MEDIA + 65530,
+    COLUMN + 65530,
+    KEPT_LENGTH + 0 + 0 * IS,
+    MEDIA + 65531,
+    KEPT_LENGTH + 0 + 189 * IS,
+    READ + 65530,
+    KEPT_LENGTH + 0 + 204 * IS,
+    WRITE_COLUMN + 65530,
+    KEPT_LENGTH + 0 + 564 * IS,
+    COLUMN + 65530,
+    KEPT_LENGTH + 0 + 188 * IS,
+    MEDIA + 65530,
+    KEPT_LENGTH + 0 + 376 * IS,
+    MEDIA + 65530,
+    KEPT_LENGTH + 1 + 189 * IS,
+    READ + 65531,
+    HELD_LENGTH + 0 + 0 * IS,
+    MEDIA + 65531,
+    HELD_LENGTH + 0 + 189 * IS,
+    READ + 65530,
+    HELD_LENGTH + 0 + 564 * IS,
+    COLUMN + 65530,
+    HELD_LENGTH + 0 + 376 * IS,
+    HELD_LENGTH + 1 + 189 * IS,
+    COLUMN + 65530,
+    HELD_RECOVERY + 0 + 189 * IS,
+    COLUMN + 65530,
+    MEDIA + 65531,
+    SHOW,
+    LENGTHS,
 ];

@@ -65,7 +65,7 @@ fn in_use(v: Record) {
 }
 
 // The in-use marks of nine rows side by side.
-fn uses_of(words: [u32; 30]) {
+fn uses_of(words: [u32; 40]) {
     let mut i = 0;
     while i < 9 {
         in_use(table::record_at(&words, i));
@@ -74,11 +74,48 @@ fn uses_of(words: [u32; 30]) {
 }
 
 // The marks of the positions and of the records.
-pub fn marks(present: &[u8], words: [u32; 30]) {
+pub fn marks(present: &[u8], words: [u32; 40]) {
     text(b"  present ");
     row_of(present);
     text(b", in use ");
     uses_of(words);
+    end();
+}
+
+// A length, with a space before it.
+fn length(x: u16) {
+    named(b" ", x as usize);
+}
+
+// Lengths one after the other.
+fn lengths_of(kept: &[u16]) {
+    let mut i = 0;
+    while i < kept.len() {
+        length(kept[i]);
+        i += 1;
+    }
+}
+
+// The length of the payload of a record.
+fn payload_length(v: Record) {
+    length(v.payload_length);
+}
+
+// The lengths of the payloads of nine rows one after the other.
+fn held_of(words: [u32; 40]) {
+    let mut i = 0;
+    while i < 9 {
+        payload_length(table::record_at(&words, i));
+        i += 1;
+    }
+}
+
+// The lengths of the positions and of the records.
+pub fn lengths(kept: &[u16], words: [u32; 40]) {
+    text(b"  lengths");
+    lengths_of(kept);
+    text(b", of parity");
+    held_of(words);
     end();
 }
 
@@ -101,7 +138,11 @@ fn set_name(kind: u64) {
         script::IN_USE => text(b"set in-use mark"),
         script::STREAM => text(b"set stream"),
         script::SNBASE => text(b"set SNBase"),
+        script::KEPT_LENGTH => text(b"set length"),
+        script::HELD_RECOVERY => text(b"set length recovery"),
+        script::HELD_LENGTH => text(b"set parity length"),
         script::PAYLOAD => text(b"set payload byte"),
+        script::PARITY => text(b"set parity byte"),
         script::VALUE_L => text(b"make up L"),
         script::VALUE_P => text(b"make up P"),
         script::VALUE_N => text(b"make up n"),
@@ -117,6 +158,7 @@ fn what_name(what: u64) {
         script::BARE => text(b", zeros behind the RTP header, of length "),
         script::ZEROS => text(b", zeros, of length "),
         script::MEMBERS => text(b", of members "),
+        script::RECOVERS => text(b", length recovery "),
         _ => text(b", output bytes lent "),
     }
 }
@@ -127,7 +169,7 @@ fn difference(what: u64, value: u16) {
     if byte == 0 {
         return;
     }
-    if byte <= 228 {
+    if byte <= 592 {
         named(b", byte ", byte as usize - 1);
         named(b" is ", value as usize);
         return;
@@ -160,12 +202,20 @@ pub fn set(kind: u64, number: u16, value: u16) {
     end();
 }
 
+// How many parity packets were spoilt, where any were.
+fn spoilt(count: usize) {
+    if 0 < count {
+        named(b", spoilt ", count);
+    }
+}
+
 // What was answered.
 pub fn answer(a: Answer) {
     match a {
-        Answer::Done(n) => named(b": done ", n),
+        Answer::Done(n, _) => named(b": done ", n),
         Answer::Refused(k) => named(b": refused ", k as usize),
     }
+    spoilt(answer::spoilt(a));
 }
 
 // The numbers of a group on a line.

@@ -1,5 +1,6 @@
 // The library for cards in C and Rust: the calls of document 01 over what a card lends, its records a table.
 // Every call ends on every input; a refused one gives back its number and changes nothing that was lent.
+// The records in use are gathered into a hand: few of them into a small array, more into a large one, which is made only then.
 use face::Reply;
 use window::Record;
 use window::Window;
@@ -21,12 +22,13 @@ pub extern "C" fn cgv_open(
     ssrc: u32,
     media: &mut [u8],
     timestamps: &mut [u32],
+    lengths: &mut [u16],
     marks: &mut [u8],
     parity: &mut [u8],
     records: &mut [Record],
 ) -> Reply
-    ensures { λ r. ⌜ record { reply = r; store = stored (now (media .exit)) (now (timestamps .exit)) (now (marks .exit)) (now (parity .exit)) (now (records .exit)) }
-        ≡ replied (opened (asked base ssrc l d p n k) (stored (now (media .entry)) (now (timestamps .entry)) (now (marks .entry)) (now (parity .entry)) (now (records .entry)))) ⌝ }
+    ensures { λ r. ⌜ record { reply = r; store = stored (now (media .exit)) (now (timestamps .exit)) (now (lengths .exit)) (now (marks .exit)) (now (parity .exit)) (now (records .exit)) }
+        ≡ replied (opened (asked base ssrc l d p n k) (stored (now (media .entry)) (now (timestamps .entry)) (now (lengths .entry)) (now (marks .entry)) (now (parity .entry)) (now (records .entry)))) ⌝ }
 {
     let done = face::open(
         base,
@@ -38,6 +40,7 @@ pub extern "C" fn cgv_open(
         ssrc,
         media,
         timestamps,
+        lengths,
         marks,
         parity,
         records.len(),
@@ -53,28 +56,39 @@ pub extern "C" fn cgv_media(
     datagram: &[u8],
     media: &mut [u8],
     timestamps: &mut [u32],
+    lengths: &mut [u16],
     marks: &mut [u8],
     parity: &mut [u8],
     records: &mut [Record],
 ) -> Reply
-    ensures { λ r. ⌜ record { reply = r; store = stored (now (media .exit)) (now (timestamps .exit)) (now (marks .exit)) (now (parity .exit)) (now (records .exit)) }
-        ≡ replied (offeredMedia w (now (datagram .entry)) (stored (now (media .entry)) (now (timestamps .entry)) (now (marks .entry)) (now (parity .entry)) (now (records .entry)))) ⌝ }
+    ensures { λ r. ⌜ record { reply = r; store = stored (now (media .exit)) (now (timestamps .exit)) (now (lengths .exit)) (now (marks .exit)) (now (parity .exit)) (now (records .exit)) }
+        ≡ replied (offeredMedia w (now (datagram .entry)) (stored (now (media .entry)) (now (timestamps .entry)) (now (lengths .entry)) (now (marks .entry)) (now (parity .entry)) (now (records .entry)))) ⌝ }
 {
     let k = face::reach(records.len(), w.k);
-    let mut words = face::blanks();
-    let m = table::gather(records, k, &mut words, window::MOST_RECORDS);
+    let mut few = face::few_words();
+    let mut many: [u32; 516];
+    let hand: &mut [u32];
+    let mut m = table::gather(records, k, &mut few, face::FEW);
+    if face::enough(m) {
+        hand = &mut few;
+    } else {
+        many = face::all_words();
+        m = table::gather(records, k, &mut many, window::MOST_RECORDS);
+        hand = &mut many;
+    }
     let done = face::media(
         w,
         datagram,
         media,
         timestamps,
+        lengths,
         marks,
         parity,
-        &mut words,
+        hand,
         m,
         records.len(),
     );
-    table::scatter_back(records, &words, done.rows);
+    table::scatter_back(records, hand, done.rows);
     done.reply
 }
 
@@ -85,28 +99,39 @@ pub extern "C" fn cgv_column(
     datagram: &[u8],
     media: &mut [u8],
     timestamps: &mut [u32],
+    lengths: &mut [u16],
     marks: &mut [u8],
     parity: &mut [u8],
     records: &mut [Record],
 ) -> Reply
-    ensures { λ r. ⌜ record { reply = r; store = stored (now (media .exit)) (now (timestamps .exit)) (now (marks .exit)) (now (parity .exit)) (now (records .exit)) }
-        ≡ replied (offeredParity column w (now (datagram .entry)) (stored (now (media .entry)) (now (timestamps .entry)) (now (marks .entry)) (now (parity .entry)) (now (records .entry)))) ⌝ }
+    ensures { λ r. ⌜ record { reply = r; store = stored (now (media .exit)) (now (timestamps .exit)) (now (lengths .exit)) (now (marks .exit)) (now (parity .exit)) (now (records .exit)) }
+        ≡ replied (offeredParity column w (now (datagram .entry)) (stored (now (media .entry)) (now (timestamps .entry)) (now (lengths .entry)) (now (marks .entry)) (now (parity .entry)) (now (records .entry)))) ⌝ }
 {
     let k = face::reach(records.len(), w.k);
-    let mut words = face::blanks();
-    let m = table::gather(records, k, &mut words, window::MOST_RECORDS);
+    let mut few = face::few_words();
+    let mut many: [u32; 516];
+    let hand: &mut [u32];
+    let mut m = table::gather(records, k, &mut few, face::FEW);
+    if face::enough(m) {
+        hand = &mut few;
+    } else {
+        many = face::all_words();
+        m = table::gather(records, k, &mut many, window::MOST_RECORDS);
+        hand = &mut many;
+    }
     let done = face::column(
         w,
         datagram,
         media,
         timestamps,
+        lengths,
         marks,
         parity,
-        &mut words,
+        hand,
         m,
         records.len(),
     );
-    table::scatter_back(records, &words, done.rows);
+    table::scatter_back(records, hand, done.rows);
     done.reply
 }
 
@@ -117,28 +142,39 @@ pub extern "C" fn cgv_row(
     datagram: &[u8],
     media: &mut [u8],
     timestamps: &mut [u32],
+    lengths: &mut [u16],
     marks: &mut [u8],
     parity: &mut [u8],
     records: &mut [Record],
 ) -> Reply
-    ensures { λ r. ⌜ record { reply = r; store = stored (now (media .exit)) (now (timestamps .exit)) (now (marks .exit)) (now (parity .exit)) (now (records .exit)) }
-        ≡ replied (offeredParity row w (now (datagram .entry)) (stored (now (media .entry)) (now (timestamps .entry)) (now (marks .entry)) (now (parity .entry)) (now (records .entry)))) ⌝ }
+    ensures { λ r. ⌜ record { reply = r; store = stored (now (media .exit)) (now (timestamps .exit)) (now (lengths .exit)) (now (marks .exit)) (now (parity .exit)) (now (records .exit)) }
+        ≡ replied (offeredParity row w (now (datagram .entry)) (stored (now (media .entry)) (now (timestamps .entry)) (now (lengths .entry)) (now (marks .entry)) (now (parity .entry)) (now (records .entry)))) ⌝ }
 {
     let k = face::reach(records.len(), w.k);
-    let mut words = face::blanks();
-    let m = table::gather(records, k, &mut words, window::MOST_RECORDS);
+    let mut few = face::few_words();
+    let mut many: [u32; 516];
+    let hand: &mut [u32];
+    let mut m = table::gather(records, k, &mut few, face::FEW);
+    if face::enough(m) {
+        hand = &mut few;
+    } else {
+        many = face::all_words();
+        m = table::gather(records, k, &mut many, window::MOST_RECORDS);
+        hand = &mut many;
+    }
     let done = face::row(
         w,
         datagram,
         media,
         timestamps,
+        lengths,
         marks,
         parity,
-        &mut words,
+        hand,
         m,
         records.len(),
     );
-    table::scatter_back(records, &words, done.rows);
+    table::scatter_back(records, hand, done.rows);
     done.reply
 }
 
@@ -149,25 +185,36 @@ pub extern "C" fn cgv_read(
     number: u16,
     media: &[u8],
     timestamps: &[u32],
+    lengths: &[u16],
     marks: &[u8],
     parity: &[u8],
     records: &[Record],
     out: &mut [u8],
 ) -> Reply
     ensures { λ r. ⌜ record { reply = r; out = now (out .exit) }
-        ≡ filled (readOut w number (stored (now (media .entry)) (now (timestamps .entry)) (now (marks .entry)) (now (parity .entry)) (now (records .entry))) (now (out .entry))) ⌝ }
+        ≡ filled (readOut w number (stored (now (media .entry)) (now (timestamps .entry)) (now (lengths .entry)) (now (marks .entry)) (now (parity .entry)) (now (records .entry))) (now (out .entry))) ⌝ }
 {
     let k = face::reach(records.len(), w.k);
-    let mut words = face::blanks();
-    let m = table::gather(records, k, &mut words, window::MOST_RECORDS);
+    let mut few = face::few_words();
+    let mut many: [u32; 516];
+    let hand: &mut [u32];
+    let mut m = table::gather(records, k, &mut few, face::FEW);
+    if face::enough(m) {
+        hand = &mut few;
+    } else {
+        many = face::all_words();
+        m = table::gather(records, k, &mut many, window::MOST_RECORDS);
+        hand = &mut many;
+    }
     face::read(
         w,
         number,
         media,
         timestamps,
+        lengths,
         marks,
         parity,
-        &mut words,
+        hand,
         m,
         records.len(),
         out,
@@ -184,17 +231,27 @@ pub extern "C" fn cgv_write_column(
     ssrc: u32,
     media: &[u8],
     timestamps: &[u32],
+    lengths: &[u16],
     marks: &[u8],
     parity: &[u8],
     records: &[Record],
     out: &mut [u8],
 ) -> Reply
     ensures { λ r. ⌜ record { reply = r; out = now (out .exit) }
-        ≡ filled (wroteParity column w snbase (record { sequence = sequence; timestamp = timestamp; ssrc = ssrc }) (stored (now (media .entry)) (now (timestamps .entry)) (now (marks .entry)) (now (parity .entry)) (now (records .entry))) (now (out .entry))) ⌝ }
+        ≡ filled (wroteParity column w snbase (record { sequence = sequence; timestamp = timestamp; ssrc = ssrc }) (stored (now (media .entry)) (now (timestamps .entry)) (now (lengths .entry)) (now (marks .entry)) (now (parity .entry)) (now (records .entry))) (now (out .entry))) ⌝ }
 {
     let k = face::reach(records.len(), w.k);
-    let mut words = face::blanks();
-    let m = table::gather(records, k, &mut words, window::MOST_RECORDS);
+    let mut few = face::few_words();
+    let mut many: [u32; 516];
+    let hand: &mut [u32];
+    let mut m = table::gather(records, k, &mut few, face::FEW);
+    if face::enough(m) {
+        hand = &mut few;
+    } else {
+        many = face::all_words();
+        m = table::gather(records, k, &mut many, window::MOST_RECORDS);
+        hand = &mut many;
+    }
     face::write_column(
         w,
         snbase,
@@ -203,9 +260,10 @@ pub extern "C" fn cgv_write_column(
         ssrc,
         media,
         timestamps,
+        lengths,
         marks,
         parity,
-        &mut words,
+        hand,
         m,
         records.len(),
         out,
@@ -222,17 +280,27 @@ pub extern "C" fn cgv_write_row(
     ssrc: u32,
     media: &[u8],
     timestamps: &[u32],
+    lengths: &[u16],
     marks: &[u8],
     parity: &[u8],
     records: &[Record],
     out: &mut [u8],
 ) -> Reply
     ensures { λ r. ⌜ record { reply = r; out = now (out .exit) }
-        ≡ filled (wroteParity row w snbase (record { sequence = sequence; timestamp = timestamp; ssrc = ssrc }) (stored (now (media .entry)) (now (timestamps .entry)) (now (marks .entry)) (now (parity .entry)) (now (records .entry))) (now (out .entry))) ⌝ }
+        ≡ filled (wroteParity row w snbase (record { sequence = sequence; timestamp = timestamp; ssrc = ssrc }) (stored (now (media .entry)) (now (timestamps .entry)) (now (lengths .entry)) (now (marks .entry)) (now (parity .entry)) (now (records .entry))) (now (out .entry))) ⌝ }
 {
     let k = face::reach(records.len(), w.k);
-    let mut words = face::blanks();
-    let m = table::gather(records, k, &mut words, window::MOST_RECORDS);
+    let mut few = face::few_words();
+    let mut many: [u32; 516];
+    let hand: &mut [u32];
+    let mut m = table::gather(records, k, &mut few, face::FEW);
+    if face::enough(m) {
+        hand = &mut few;
+    } else {
+        many = face::all_words();
+        m = table::gather(records, k, &mut many, window::MOST_RECORDS);
+        hand = &mut many;
+    }
     face::write_row(
         w,
         snbase,
@@ -241,9 +309,10 @@ pub extern "C" fn cgv_write_row(
         ssrc,
         media,
         timestamps,
+        lengths,
         marks,
         parity,
-        &mut words,
+        hand,
         m,
         records.len(),
         out,

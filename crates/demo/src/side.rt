@@ -23,16 +23,17 @@ const RECORDS: usize = 8;
 pub struct Side {
     pub media: [u8; 3008],
     pub timestamps: [u32; 16],
+    pub lengths: [u16; 16],
     pub marks: [u8; 16],
     pub parity: [u8; 1504],
-    pub words: [u32; 27],
+    pub words: [u32; 36],
     pub answer: Answer,
     pub receiver: Receiver,
 }
 
 // Rows that are free, each at its slot.
-fn free_rows() -> [u32; 27] {
-    let mut words = [0u32; 27];
+fn free_rows() -> [u32; 36] {
+    let mut words = [0u32; 36];
     let mut i = 0;
     while i < RECORDS {
         table::put_row(&mut words, i, i as u32, 0, window::free_record());
@@ -45,6 +46,7 @@ fn free_rows() -> [u32; 27] {
 pub fn open() -> Side {
     let mut media = [0u8; 3008];
     let mut timestamps = [0u32; 16];
+    let mut lengths = [0u16; 16];
     let mut marks = [0u8; 16];
     let mut parity = [0u8; 1504];
     let opening = Receiver::open(
@@ -57,6 +59,7 @@ pub fn open() -> Side {
         RECORDS,
         &mut media,
         &mut timestamps,
+        &mut lengths,
         &mut marks,
         &mut parity,
         RECORDS,
@@ -67,6 +70,7 @@ pub fn open() -> Side {
     Side {
         media,
         timestamps,
+        lengths,
         marks,
         parity,
         words,
@@ -75,24 +79,25 @@ pub fn open() -> Side {
     }
 }
 
-// A datagram goes to a port: m media, t timestamps, k marks, p parity, h rows.
+// A datagram goes to a port: m media, t timestamps, s lengths, k marks, p parity, h rows.
 fn hand_in(
     w: Receiver,
     port: u8,
     g: &[u8],
     m: &mut [u8; 3008],
     t: &mut [u32; 16],
+    s: &mut [u16; 16],
     k: &mut [u8; 16],
     p: &mut [u8; 1504],
-    h: &mut [u32; 27],
+    h: &mut [u32; 36],
 ) -> Step {
     if port == MEDIA {
-        return w.media(g, m, t, k, p, h, RECORDS, RECORDS);
+        return w.media(g, m, t, s, k, p, h, RECORDS, RECORDS);
     }
     if port == COLUMN {
-        return w.column(g, m, t, k, p, h, RECORDS, RECORDS);
+        return w.column(g, m, t, s, k, p, h, RECORDS, RECORDS);
     }
-    w.row(g, m, t, k, p, h, RECORDS, RECORDS)
+    w.row(g, m, t, s, k, p, h, RECORDS, RECORDS)
 }
 
 // A datagram is offered on a port.
@@ -100,6 +105,7 @@ pub fn offer(side: Side, port: u8, g: &[u8]) -> Side {
     let w = side.receiver;
     let mut media = side.media;
     let mut timestamps = side.timestamps;
+    let mut lengths = side.lengths;
     let mut marks = side.marks;
     let mut parity = side.parity;
     let mut words = side.words;
@@ -109,6 +115,7 @@ pub fn offer(side: Side, port: u8, g: &[u8]) -> Side {
         g,
         &mut media,
         &mut timestamps,
+        &mut lengths,
         &mut marks,
         &mut parity,
         &mut words,
@@ -118,6 +125,7 @@ pub fn offer(side: Side, port: u8, g: &[u8]) -> Side {
     Side {
         media,
         timestamps,
+        lengths,
         marks,
         parity,
         words,
@@ -131,6 +139,7 @@ pub fn packet(side: Side, number: u16) -> [u8; 200] {
     let w = side.receiver;
     let media = side.media;
     let timestamps = side.timestamps;
+    let lengths = side.lengths;
     let marks = side.marks;
     let parity = side.parity;
     let mut words = side.words;
@@ -139,6 +148,7 @@ pub fn packet(side: Side, number: u16) -> [u8; 200] {
         number,
         &media,
         &timestamps,
+        &lengths,
         &marks,
         &parity,
         &mut words,
@@ -154,6 +164,7 @@ pub fn column(side: Side, start: u16, sequence: u16) -> [u8; 216] {
     let w = side.receiver;
     let media = side.media;
     let timestamps = side.timestamps;
+    let lengths = side.lengths;
     let marks = side.marks;
     let parity = side.parity;
     let mut words = side.words;
@@ -165,6 +176,7 @@ pub fn column(side: Side, start: u16, sequence: u16) -> [u8; 216] {
         0,
         &media,
         &timestamps,
+        &lengths,
         &marks,
         &parity,
         &mut words,
@@ -180,6 +192,7 @@ pub fn row(side: Side, start: u16, sequence: u16) -> [u8; 216] {
     let w = side.receiver;
     let media = side.media;
     let timestamps = side.timestamps;
+    let lengths = side.lengths;
     let marks = side.marks;
     let parity = side.parity;
     let mut words = side.words;
@@ -191,6 +204,7 @@ pub fn row(side: Side, start: u16, sequence: u16) -> [u8; 216] {
         0,
         &media,
         &timestamps,
+        &lengths,
         &marks,
         &parity,
         &mut words,

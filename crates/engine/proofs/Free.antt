@@ -53,10 +53,9 @@ module _ (w : Window) (marks : List ℕ) (hs : List Row) where
           subst (λ (r : Row). SoundRow w marks r) (sym o) (s .at j h (ap (λ (r : Row). used (r .it)) (sym o) ∙ u))
 
   module _ (np : ℕ) (room : w .k * w .p ≤ np) where
-    keeps-row : (d : Desk) (i : ℕ) → i < length (d .rows) → rowSpent (d .rows) i ≡ true → Keeps w marks np hs d → Keeps w marks np hs (freeRow i d)
-    keeps-row d i l e k =
+    pub keeps-row : (d : Desk) (i : ℕ) → i < length (d .rows) → used (itAt (d .rows) i) ≡ true → Keeps w marks np hs d → Keeps w marks np hs (freeRow i d)
+    keeps-row d i l u k =
         let p-same : d .window .p ≡ w .p = ap (λ (v : Window). v .p) (k .same) in
-        let u : used (itAt (d .rows) i) ≡ true = first (used (itAt (d .rows) i)) (eqb (missingAt (d .rows) i) 0) e in
         let ends = row-ends (slotAt (d .rows) i) (w .k) (w .p) (length (d .parity)) (k .sound .at i l u .slot-low) (omega (arith, room, k .long)) in
         record {
           same = rw (k .same);
@@ -65,16 +64,16 @@ module _ (w : Window) (marks : List ℕ) (hs : List Row) where
           long = length-paste (d .parity) (slotAt (d .rows) i * d .window .p) (replicate (d .window .p) 0) (d .window .p) (rw p-same ends) (simp length-replicate (omega arith)) ∙ k .long;
           sound = sound-put (d .rows) i l (k .sound);
         }
+
+    pub keeps-spent : (d : Desk) (i : ℕ) → i < length (d .rows) → Keeps w marks np hs d → Keeps w marks np hs (freeSpent i d)
+    keeps-spent d i l k = go (rowSpent (d .rows) i) refl
       where
         first : (a b : Bool) → (a && b) ≡ true → a ≡ true
         first true b e = refl
         first false b e = e
 
-    pub keeps-spent : (d : Desk) (i : ℕ) → i < length (d .rows) → Keeps w marks np hs d → Keeps w marks np hs (freeSpent i d)
-    keeps-spent d i l k = go (rowSpent (d .rows) i) refl
-      where
         go : (t : Bool) → rowSpent (d .rows) i ≡ t → Keeps w marks np hs (cond t (freeRow i d) d)
-        go true e = keeps-row d i l e k
+        go true e = keeps-row d i l (first (used (itAt (d .rows) i)) (eqb (missingAt (d .rows) i) 0) e) k
         go false e = k
 
     keeps-below : (d : Desk) (m : ℕ) → m ≤ length hs → Keeps w marks np hs d → Keeps w marks np hs (below freeSpent m d)
@@ -88,10 +87,10 @@ module _ (w : Window) (marks : List ℕ) (hs : List Row) where
     keeps-all d m l k = keeps-below d m l k
 
     -- ---- of every table
-    module _ (media timestamps : List ℕ) (t : List Record) (f : Fits t (w .k) hs) (b : ℕ) where
+    module _ (media timestamps lengths : List ℕ) (t : List Record) (f : Fits t (w .k) hs) (b q : ℕ) where
       -- a desk as a state
       abbrev shown : Desk → State
-      shown d = scene (d .window) (stored media timestamps marks (d .parity) (scatter (d .rows) t)) b
+      shown d = scene (d .window) (stored media timestamps lengths marks (d .parity) (scatter (d .rows) t)) b q
 
       spent-is : (d : Desk) → Keeps w marks np hs d → (i : ℕ) → i < length hs → spent (shown d) (slotAt hs i) ≡ rowSpent (d .rows) i
       spent-is d k i l =
@@ -104,17 +103,16 @@ module _ (w : Window) (marks : List ℕ) (hs : List Row) where
           go n true e = ap (λ (c : ℕ). eqb c 0) (sym (k .sound .at i n e .counted))
           go n false e = refl
 
+      pub freed : (d : Desk) → Keeps w marks np hs d → (i : ℕ) → i < length hs → release (slotAt hs i) (shown d) ≡ shown (freeRow i d)
+      freed d k i l =
+          let n : i < length (d .rows) = omega (arith, l, same-length hs (d .rows) (k .same-slots)) in
+          rw (← same-slot hs (d .rows) (k .same-slots) i, set-scatter (same-fits f (d .rows) (k .same-slots) .apart) i blank n)
+
       row-is : (d : Desk) → Keeps w marks np hs d → (i : ℕ) → i < length hs → releaseSpent (slotAt hs i) (shown d) ≡ shown (freeSpent i d)
       row-is d k i l = ap (λ (u : Bool). cond u (release (slotAt hs i) (shown d)) (shown d)) (spent-is d k i l) ∙ go (rowSpent (d .rows) i)
         where
-          n : i < length (d .rows)
-          n = omega (arith, l, same-length hs (d .rows) (k .same-slots))
-
-          freed : release (slotAt hs i) (shown d) ≡ shown (freeRow i d)
-          freed = rw (← same-slot hs (d .rows) (k .same-slots) i, set-scatter (same-fits f (d .rows) (k .same-slots) .apart) i blank n)
-
           go : (u : Bool) → cond u (release (slotAt hs i) (shown d)) (shown d) ≡ shown (cond u (freeRow i d) d)
-          go true = freed
+          go true = freed d k i l
           go false = refl
 
       passed : (d : Desk) → Keeps w marks np hs d → (m : ℕ) → m ≤ length hs → rows releaseSpent hs m (shown d) ≡ shown (below freeSpent m d)

@@ -120,6 +120,7 @@ lowered-sound w i marks hs hs′ l z s a = record { at = λ j h u. row j (omega 
         record {
           slot-low = rw (b .same-slot) (q .slot-low);
           inside = rw (b .same-it) (q .inside);
+          size-low = rw (b .same-it) (q .size-low);
           counted =
               b .less u (q .inside) ∙ ap (λ (n : ℕ). n - count (eqb i) (group w (itAt hs j .stream) (itAt hs j .snbase))) (q .counted)
               ∙ sym (fewer marks i l z (group w (itAt hs j .stream) (itAt hs j .snbase)))

@@ -83,9 +83,9 @@ nextBelow-is : (x : State) (k : ℕ) → nextBelow x k ≡ below (better x) k no
 nextBelow-is x zero = refl
 nextBelow-is x (suc k) = ap (better x k) (nextBelow-is x k)
 
-module _ (w : Window) (x : Parts) (s : Sound w (x .marks) (x .rows)) (t : List Record) (f : Fits t (w .k) (x .rows)) (b : ℕ) where
+module _ (w : Window) (x : Parts) (s : Sound w (x .marks) (x .rows)) (t : List Record) (f : Fits t (w .k) (x .rows)) (b q₀ : ℕ) where
   abbrev it : State
-  it = scene w (over x t) b
+  it = scene w (over x t) b q₀
 
   record-is : (i : ℕ) → i < length (x .rows) → recordAt (over x t) (slotAt (x .rows) i) ≡ itAt (x .rows) i
   record-is i l = get-scatter (f .apart) (f .enough) i l

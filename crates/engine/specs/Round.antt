@@ -19,19 +19,21 @@ use Rattle.engine.specs.declared.Round.{Round}
 pub record Parts : Type 0 where
   pub media : List ℕ
   pub timestamps : List ℕ
+  pub lengths : List ℕ
   pub marks : List ℕ
   pub parity : List ℕ
   pub rows : List Row
 
 -- the parts as a store, the hand scattered over a table
 abbrev pub over : Parts → List Record → Store
-over x t = stored (x .media) (x .timestamps) (x .marks) (x .parity) (scatter (x .rows) t)
+over x t = stored (x .media) (x .timestamps) (x .lengths) (x .marks) (x .parity) (scatter (x .rows) t)
 
 -- a window value whose numbers are good, as much of each part as it needs, a sound hand, and counts within their limits
 pub record Serves (w : Window) (x : Parts) : Type 0 where
   pub set-up : SetUp w
   pub media-long : w .n * w .p ≤ length (x .media)
   pub timestamps-long : w .n ≤ length (x .timestamps)
+  pub lengths-long : w .n ≤ length (x .lengths)
   pub marks-long : w .n ≤ length (x .marks)
   pub parity-long : w .k * w .p ≤ length (x .parity)
   pub sound : Sound w (x .marks) (x .rows)
@@ -41,15 +43,15 @@ pub record Rounded (w : Window) (x : Parts) (r : Round) (y : Parts) : Type 0 whe
   pub kept : r .window ≡ recount w (r .window .present) (r .window .«in_use»)
   pub serves : Serves (r .window) y
   pub same-slots : slots (y .rows) ≡ slots (x .rows)
-  pub small : r .rebuilt ≤ 1
+  pub small : r .rebuilt + r .spoilt ≤ 1
   pub more-present : r .window .present ≤ w .present + r .rebuilt
-  pub is : (t : List Record) → Fits t (w .k) (x .rows) → (b : ℕ) → scene (r .window) (over y t) (b + r .rebuilt) ≡ round (scene w (over x t) b)
-  pub rest : r .rebuilt ≡ 0 → (t : List Record) → Fits t (w .k) (x .rows) → (b : ℕ) → next (scene w (over x t) b) ≡ none
-  pub still : r .rebuilt ≡ 0 → y .rows ≡ x .rows
+  pub is : (t : List Record) → Fits t (w .k) (x .rows) → (b q : ℕ) → scene (r .window) (over y t) (b + r .rebuilt) (q + r .spoilt) ≡ round (scene w (over x t) b q)
+  pub rest : r .rebuilt + r .spoilt ≡ 0 → (t : List Record) → Fits t (w .k) (x .rows) → (b q : ℕ) → next (scene w (over x t) b q) ≡ none
+  pub still : r .rebuilt + r .spoilt ≡ 0 → y .rows ≡ x .rows
 
 -- what settling leaves
 pub record Settled (w : Window) (x : Parts) (r : Round) (y : Parts) : Type 0 where
-  pub few : r .rebuilt ≤ w .«in_use»
+  pub few : r .rebuilt + r .spoilt ≤ w .«in_use»
   pub same-slots : slots (y .rows) ≡ slots (x .rows)
-  pub is : (t : List Record) → Fits t (w .k) (x .rows) → (b : ℕ) → scene (r .window) (over y t) (b + r .rebuilt) ≡ settle (scene w (over x t) b)
-  pub still : r .rebuilt ≡ 0 → y .rows ≡ x .rows
+  pub is : (t : List Record) → Fits t (w .k) (x .rows) → (b q : ℕ) → scene (r .window) (over y t) (b + r .rebuilt) (q + r .spoilt) ≡ settle (scene w (over x t) b q)
+  pub still : r .rebuilt + r .spoilt ≡ 0 → y .rows ≡ x .rows

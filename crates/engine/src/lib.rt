@@ -17,7 +17,7 @@ ghost use Rattle.window.specs.Order.{used};
 ghost use Rattle.window.specs.Plain.{Inside};
 ghost use Rattle.calls.specs.State.{recount};
 ghost use Rattle.table.specs.View.{hand, slotAt, itAt};
-ghost use Rattle.engine.specs.Rows.{LoweredAt, LoweredAll, rowReady, nextRow, found, pick, freeSpent, freeBelow};
+ghost use Rattle.engine.specs.Rows.{LoweredAt, LoweredAll, rowReady, nextRow, found, pick, freeRow, freeSpent, freeBelow};
 ghost use Rattle.engine.specs.Round.{Serves, Rounded, Settled};
 
 // ---- one packet more: how many packets each row waits for
@@ -151,6 +151,17 @@ fn one_less(x: usize) -> usize
     if x == 0 { 0 } else { x - 1 }
 }
 
+// The record of row i and its payload are set to zero.
+fn free_row(w: Window, i: usize, parity: &mut [u8], rows: &mut [u32]) -> Window
+    requires { ⌜ (i < length (hand (now rows))) × (slotAt (hand (now rows)) i < w .k) × (w .k * w .p ≤ length (now parity)) ⌝ }
+    ensures { λ v. ⌜ record { window = v; parity = now (parity .exit); rows = hand (now (rows .exit)) } ≡ freeRow i (record { window = w; parity = now (parity .entry); rows = hand (now (rows .entry)) }) ⌝ }
+{
+    let s = table::slot_at(rows, i);
+    xor::zero_at(parity, s * w.p, w.p);
+    table::put_record(rows, i, window::free_record());
+    recounted(w, w.present, one_less(w.in_use))
+}
+
 // Row i is released if it is in use and none of its group is missing.
 fn release_row(w: Window, i: usize, parity: &mut [u8], rows: &mut [u32]) -> Window
     requires { ⌜ (i < length (hand (now rows))) × (used (itAt (hand (now rows)) i) ≡ true → slotAt (hand (now rows)) i < w .k) × (w .k * w .p ≤ length (now parity)) ⌝ }
@@ -163,10 +174,7 @@ fn release_row(w: Window, i: usize, parity: &mut [u8], rows: &mut [u32]) -> Wind
     if table::missing_at(rows, i) != 0 {
         return w;
     }
-    let s = table::slot_at(rows, i);
-    xor::zero_at(parity, s * w.p, w.p);
-    table::put_record(rows, i, window::free_record());
-    recounted(w, w.present, one_less(w.in_use))
+    free_row(w, i, parity, rows)
 }
 
 // Every spent row is released. The hand has m rows.
@@ -186,53 +194,72 @@ fn release_all(w: Window, parity: &mut [u8], rows: &mut [u32], m: usize) -> Wind
 
 // ---- rounds
 
-// The window value after rounds, and how many packets they rebuilt.
+// The window value after rounds, how many packets they rebuilt, and how many rows they found spoilt.
 pub struct Round {
     pub window: Window,
     pub rebuilt: usize,
+    pub spoilt: usize,
 }
 
-// The next row rebuilds its missing packet, the rows that waited for it wait for one less, and what is spent is released.
+// The next row rebuilds its missing packet, the rows that waited for it wait for one less, and what is spent is released; or it is
+// spoilt, and is released itself.
 fn one_round(
     w: Window,
     media: &mut [u8],
     timestamps: &mut [u32],
+    lengths: &mut [u16],
     marks: &mut [u8],
     parity: &mut [u8],
     rows: &mut [u32],
     m: usize,
 ) -> Round
-    requires { ⌜ Serves w (record { media = now media; timestamps = now timestamps; marks = now marks; parity = now parity; rows = hand (now rows) }) × (length (hand (now rows)) ≡ m) × (w .present < mostCounted) ⌝ }
-    ensures { λ r. ⌜ Rounded w (record { media = now (media .entry); timestamps = now (timestamps .entry); marks = now (marks .entry); parity = now (parity .entry); rows = hand (now (rows .entry)) }) r
-        (record { media = now (media .exit); timestamps = now (timestamps .exit); marks = now (marks .exit); parity = now (parity .exit); rows = hand (now (rows .exit)) }) ⌝ }
+    requires { ⌜ Serves w (record { media = now media; timestamps = now timestamps; lengths = now lengths; marks = now marks; parity = now parity; rows = hand (now rows) }) × (length (hand (now rows)) ≡ m) × (w .present < mostCounted) ⌝ }
+    ensures { λ r. ⌜ Rounded w (record { media = now (media .entry); timestamps = now (timestamps .entry); lengths = now (lengths .entry); marks = now (marks .entry); parity = now (parity .entry); rows = hand (now (rows .entry)) }) r
+        (record { media = now (media .exit); timestamps = now (timestamps .exit); lengths = now (lengths .exit); marks = now (marks .exit); parity = now (parity .exit); rows = hand (now (rows .exit)) }) ⌝ }
 {
     let r = next_ready(w, rows, m);
     if m <= r {
         return Round {
             window: w,
             rebuilt: 0,
+            spoilt: 0,
         };
     }
     let v = table::record_at(rows, r);
     let s = table::slot_at(rows, r);
     let p = w.p;
     let i = group::first_missing(w, marks, v.stream, v.snbase);
-    group::rebuild_at(
+    let good = group::rebuild_at(
         w,
         v.stream,
         v.snbase,
         i,
         v.timestamp_recovery,
+        v.length_recovery,
+        rtp::wide(v.payload_length),
         parity,
         s * p,
         media,
         timestamps,
+        lengths,
         marks,
     );
+    if !good {
+        let window = free_row(w, r, parity, rows);
+        return Round {
+            window,
+            rebuilt: 0,
+            spoilt: 1,
+        };
+    }
     lower(w, i, rows, m);
     let more = recounted(w, w.present + 1, w.in_use);
     let window = release_all(more, parity, rows, m);
-    Round { window, rebuilt: 1 }
+    Round {
+        window,
+        rebuilt: 1,
+        spoilt: 0,
+    }
 }
 
 // Rounds until no row is ready. The hand has m rows.
@@ -240,32 +267,37 @@ pub fn settle(
     w: Window,
     media: &mut [u8],
     timestamps: &mut [u32],
+    lengths: &mut [u16],
     marks: &mut [u8],
     parity: &mut [u8],
     rows: &mut [u32],
     m: usize,
 ) -> Round
-    requires { ⌜ Serves w (record { media = now media; timestamps = now timestamps; marks = now marks; parity = now parity; rows = hand (now rows) }) × (length (hand (now rows)) ≡ m) × (w .present + w .«in_use» ≤ mostCounted) ⌝ }
-    ensures { λ r. ⌜ Settled w (record { media = now (media .entry); timestamps = now (timestamps .entry); marks = now (marks .entry); parity = now (parity .entry); rows = hand (now (rows .entry)) }) r
-        (record { media = now (media .exit); timestamps = now (timestamps .exit); marks = now (marks .exit); parity = now (parity .exit); rows = hand (now (rows .exit)) }) ⌝ }
+    requires { ⌜ Serves w (record { media = now media; timestamps = now timestamps; lengths = now lengths; marks = now marks; parity = now parity; rows = hand (now rows) }) × (length (hand (now rows)) ≡ m) × (w .present + w .«in_use» ≤ mostCounted) ⌝ }
+    ensures { λ r. ⌜ Settled w (record { media = now (media .entry); timestamps = now (timestamps .entry); lengths = now (lengths .entry); marks = now (marks .entry); parity = now (parity .entry); rows = hand (now (rows .entry)) }) r
+        (record { media = now (media .exit); timestamps = now (timestamps .exit); lengths = now (lengths .exit); marks = now (marks .exit); parity = now (parity .exit); rows = hand (now (rows .exit)) }) ⌝ }
 {
     let mut v = w;
-    let mut done = 0;
+    let mut rebuilt = 0;
+    let mut spoilt = 0;
     let mut left = w.in_use;
     while 0 < left {
-        let r = one_round(v, media, timestamps, marks, parity, rows, m);
+        let r = one_round(v, media, timestamps, lengths, marks, parity, rows, m);
         v = r.window;
-        if r.rebuilt == 0 {
+        if r.rebuilt + r.spoilt == 0 {
             return Round {
                 window: v,
-                rebuilt: done,
+                rebuilt,
+                spoilt,
             };
         }
-        done += 1;
+        rebuilt += r.rebuilt;
+        spoilt += r.spoilt;
         left -= 1;
     }
     Round {
         window: v,
-        rebuilt: done,
+        rebuilt,
+        spoilt,
     }
 }

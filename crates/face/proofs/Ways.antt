@@ -12,7 +12,7 @@ use Rattle.window.specs.declared.Record.{Record}
 use Rattle.window.specs.Limits.{mostRecords}
 use Rattle.window.specs.Store.{Store, stored}
 use Rattle.calls.specs.Call.{Outcome, Written}
-use Rattle.table.specs.View.{Row, hand, scatter}
+use Rattle.table.specs.View.{rowWords, Row, hand, scatter}
 use Rattle.table.specs.Apart.{Within}
 use Rattle.table.specs.Gather.{gathered, Gathered, gathered-apart, gathered-scatter, gathered-within, gathered-length}
 use Rattle.order.specs.Stands.{Taken}
@@ -21,14 +21,14 @@ use Rattle.receiver.specs.Step.{Laid, tableOf, Stepped, Wrote}
 use Rattle.face.specs.declared.Reply.{Reply}
 use Rattle.face.specs.declared.Finished.{Finished}
 use Rattle.face.specs.Reply.{Replied, Filled, numbered, replied, filled}
-use Rattle.face.specs.Done.{reached, handWords, Lent, Done, Given}
+use Rattle.face.specs.Done.{reached, Lent, Done, Given}
 
 -- no rows leave the table as it is
 no-rows : (hs : List Row) (t : List Record) → scatter (take 0 hs) t ≡ t
 unfolding scatter
 no-rows hs t = refl
 
-module _ (len k m : ℕ) (words : List ℕ) (sized : length words ≡ handWords) (t : List Record) (l : Lent len k m words t) where
+module _ (len k m : ℕ) (words : List ℕ) (sized : (m + 1) * rowWords ≤ length words) (t : List Record) (l : Lent len k m words t) where
   few : length (gathered (reached len k) t) ≤ mostRecords
   few = omega (arith, gathered-length (reached len k) t)
 
@@ -43,7 +43,7 @@ module _ (len k m : ℕ) (words : List ℕ) (sized : length words ≡ handWords)
   laid = record {
     sized = l .sized;
     few = omega (arith, count-is, few);
-    room = omega (arith, count-is, few, sized);
+    room = sized;
     taken = record { apart = λ a b. let e : reached len k ≡ k = omega (arith, a, b, l .sized) in rw (rows-are, e) (gathered-apart k t) };
   }
 
@@ -55,16 +55,16 @@ module _ (len k m : ℕ) (words : List ℕ) (sized : length words ≡ handWords)
   within-is = subst (Within len) (sym rows-are) (λ i h. omega (arith, gathered-within (reached len k) t i h))
 
 -- an offer
-module _ (call : Store → Outcome) (len k m : ℕ) (media timestamps marks parity words : List ℕ) (sized : length words ≡ handWords) (media′ timestamps′ marks′ parity′ words′ : List ℕ) (r : Step)
-    (s : Stepped call k len m media timestamps marks parity words media′ timestamps′ marks′ parity′ words′ r) (long : length words′ ≡ length words) where
+module _ (call : Store → Outcome) (len k m : ℕ) (media timestamps lengths marks parity words : List ℕ) (sized : (m + 1) * rowWords ≤ length words) (media′ timestamps′ lengths′ marks′ parity′ words′ : List ℕ) (r : Step)
+    (s : Stepped call k len m media timestamps lengths marks parity words media′ timestamps′ lengths′ marks′ parity′ words′ r) (long : length words′ ≡ length words) where
   pub done : (f : Finished) → f .reply ≡ numbered (r .answer) (r .receiver .window) → f .rows ≡ cond (r .changed) (r .rows) 0
-      → Done (λ x. replied (call x)) len k m media timestamps marks parity words media′ timestamps′ marks′ parity′ words′ f
+      → Done (λ x. replied (call x)) len k m media timestamps lengths marks parity words media′ timestamps′ lengths′ marks′ parity′ words′ f
   done f er en = record {
     within = λ t l. subst (λ (n : ℕ). Within len (take n (hand words′))) (sym en) (inside t l (r .changed));
     few = λ t l. rw en (fewer t l (r .changed));
     is = λ t l.
-        (λ i. record { reply = er i; store = stored media′ timestamps′ marks′ parity′ (table t l i) })
-        ∙ ap replied (s .is t (laid len k m words sized t l) ∙ ap (λ (u : List Record). call (stored media timestamps marks parity u)) (table-is len k m words sized t l));
+        (λ i. record { reply = er i; store = stored media′ timestamps′ lengths′ marks′ parity′ (table t l i) })
+        ∙ ap replied (s .is t (laid len k m words sized t l) ∙ ap (λ (u : List Record). call (stored media timestamps lengths marks parity u)) (table-is len k m words sized t l));
   }
     where
       inside : (t : List Record) → Lent len k m words t → (b : Bool) → Within len (take (cond b (r .rows) 0) (hand words′))
@@ -83,10 +83,10 @@ module _ (call : Store → Outcome) (len k m : ℕ) (media timestamps marks pari
           go false e = no-rows (hand words′) t ∙ sym (s .still t (laid len k m words sized t l) e ∙ table-is len k m words sized t l)
 
 -- reading out or writing parity
-pub given : (call : Store → List ℕ → Written) (len k m : ℕ) (media timestamps marks parity words out out′ : List ℕ) → length words ≡ handWords → (r : Step) → Wrote call k len m media timestamps marks parity words out out′ r
-    → (reply : Reply) → reply ≡ numbered (r .answer) (r .receiver .window) → Given (λ x o. filled (call x o)) len k m media timestamps marks parity words out out′ reply
-given call len k m media timestamps marks parity words out out′ sized r s reply er = record {
+pub given : (call : Store → List ℕ → Written) (len k m : ℕ) (media timestamps lengths marks parity words out out′ : List ℕ) → (m + 1) * rowWords ≤ length words → (r : Step) → Wrote call k len m media timestamps lengths marks parity words out out′ r
+    → (reply : Reply) → reply ≡ numbered (r .answer) (r .receiver .window) → Given (λ x o. filled (call x o)) len k m media timestamps lengths marks parity words out out′ reply
+given call len k m media timestamps lengths marks parity words out out′ sized r s reply er = record {
   is = λ t l.
       (λ i. record { reply = er i; out = out′ })
-      ∙ ap filled (s .is t (laid len k m words sized t l) ∙ ap (λ (u : List Record). call (stored media timestamps marks parity u) out) (table-is len k m words sized t l));
+      ∙ ap filled (s .is t (laid len k m words sized t l) ∙ ap (λ (u : List Record). call (stored media timestamps lengths marks parity u) out) (table-is len k m words sized t l));
 }

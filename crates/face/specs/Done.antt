@@ -17,9 +17,17 @@ use Rattle.face.specs.Reply.{Replied, Filled}
 abbrev pub reached : (len k : ℕ) → ℕ
 reached len k = min mostRecords (min len k)
 
+-- most records of a small hand
+abbrev pub fewRecords : ℕ
+fewRecords = 15
+
+-- the words of a small hand, with one row more
+abbrev pub fewWords : ℕ
+fewWords = (fewRecords + 1) * rowWords
+
 -- the words of as many rows as a window may have records, and one more
-abbrev pub handWords : ℕ
-handWords = (mostRecords + 1) * rowWords
+abbrev pub allWords : ℕ
+allWords = (mostRecords + 1) * rowWords
 
 -- m rows of some words were gathered of a table of len records
 pub record Lent (len k m : ℕ) (words : List ℕ) (t : List Record) : Type 0 where
@@ -27,12 +35,12 @@ pub record Lent (len k m : ℕ) (words : List ℕ) (t : List Record) : Type 0 wh
   pub is : Gathered mostRecords m (hand words) (gathered (reached len k) t)
 
 -- an offer: the rows that go back lie within the table, and with them the table is what the call says
-pub record Done (call : Store → Replied) (len k m : ℕ) (media timestamps marks parity words media′ timestamps′ marks′ parity′ words′ : List ℕ) (r : Finished) : Type 0 where
+pub record Done (call : Store → Replied) (len k m : ℕ) (media timestamps lengths marks parity words media′ timestamps′ lengths′ marks′ parity′ words′ : List ℕ) (r : Finished) : Type 0 where
   pub few : (t : List Record) → Lent len k m words t → r .rows ≤ length (hand words′)
   pub within : (t : List Record) → Lent len k m words t → Within len (take (r .rows) (hand words′))
   pub is : (t : List Record) → Lent len k m words t
-      → record { reply = r .reply; store = stored media′ timestamps′ marks′ parity′ (scatter (take (r .rows) (hand words′)) t) } ≡ call (stored media timestamps marks parity t)
+      → record { reply = r .reply; store = stored media′ timestamps′ lengths′ marks′ parity′ (scatter (take (r .rows) (hand words′)) t) } ≡ call (stored media timestamps lengths marks parity t)
 
 -- reading out or writing parity
-pub record Given (call : Store → List ℕ → Filled) (len k m : ℕ) (media timestamps marks parity words out out′ : List ℕ) (r : Reply) : Type 0 where
-  pub is : (t : List Record) → Lent len k m words t → record { reply = r; out = out′ } ≡ call (stored media timestamps marks parity t) out
+pub record Given (call : Store → List ℕ → Filled) (len k m : ℕ) (media timestamps lengths marks parity words out out′ : List ℕ) (r : Reply) : Type 0 where
+  pub is : (t : List Record) → Lent len k m words t → record { reply = r; out = out′ } ≡ call (stored media timestamps lengths marks parity t) out

@@ -1,16 +1,16 @@
--- A call's outcome as a card gets it: document 01's number and count in place of the answer.
+-- A call's outcome as a card gets it: document 01's number and counts in place of the answer.
 use mathlib.Core.List.{List}
 use Prim.Native.Nat.{ℕ}
 use Rattle.answer.specs.declared.Answer.{Answer}
-use Rattle.answer.specs.Number.{numberOf, countOf}
+use Rattle.answer.specs.Number.{numberOf, countOf, spoiltOf}
 use Rattle.window.specs.declared.Window.{Window}
 use Rattle.window.specs.Store.{Store}
 use Rattle.calls.specs.Call.{Outcome, Written}
 use Rattle.face.specs.declared.Reply.{Reply}
 
--- an answer as document 01's number and count, with the window value
+-- an answer as document 01's number and counts, with the window value
 abbrev pub numbered : Answer → Window → Reply
-numbered a w = record { number = numberOf a; count = countOf a; window = w }
+numbered a w = record { number = numberOf a; count = countOf a; spoilt = spoiltOf a; window = w }
 
 -- what a call gives back, and leaves in the lent store
 pub record Replied : Type 0 where

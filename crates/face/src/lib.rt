@@ -6,20 +6,23 @@ use window::Window;
 ghost use mathlib.Core.Path.{_≡_};
 ghost use mathlib.Core.Bool.{cond};
 ghost use mathlib.Core.List.{List};
-ghost use Prim.Native.Nat.{_≤_};
+ghost use Prim.Native.Nat.{_+_, _*_, _≤_};
+ghost use lib.Dec.{leb};
 ghost use lib.ListN.{length};
 ghost use Rattle.window.specs.declared.Record.{Record};
 ghost use Rattle.window.specs.Store.{stored};
+ghost use Rattle.table.specs.View.{rowWords};
 ghost use Rattle.rtp.specs.Fec.{column, row};
 ghost use Rattle.calls.specs.Call.{asked, wiped, opened, offeredMedia, offeredParity, readOut, wroteParity};
 ghost use Rattle.face.specs.Reply.{numbered, replied, filled};
-ghost use Rattle.face.specs.Done.{reached, handWords, Done, Given};
+ghost use Rattle.face.specs.Done.{reached, fewRecords, fewWords, allWords, Done, Given};
 
-// An answer by document 01's number and count, and the next window value.
+// An answer by document 01's number and counts, and the next window value.
 #[repr(C)]
 pub struct Reply {
     pub number: u32,
     pub count: usize,
+    pub spoilt: usize,
     pub window: Window,
 }
 
@@ -45,20 +48,38 @@ pub fn reach(len: usize, k: usize) -> usize
     k
 }
 
-// The words of as many rows as a window may have records, and one more, all zero.
-pub fn blanks() -> [u32; 387]
-    ensures { λ r. ⌜ length r ≡ handWords ⌝ }
+// Most records of a small hand, which most calls can do with.
+pub const FEW: usize = 15;
+
+// A small hand is enough for m records.
+pub fn enough(m: usize) -> bool
+    ensures { λ r. ⌜ r ≡ leb m fewRecords ⌝ }
 {
-    [0u32; 387]
+    m <= FEW
 }
 
-// The answer as number and count.
+// The words of a small hand, with one row more, all zero.
+pub fn few_words() -> [u32; 64]
+    ensures { λ r. ⌜ length r ≡ fewWords ⌝ }
+{
+    [0u32; 64]
+}
+
+// The words of as many rows as a window may have records, and one more, all zero.
+pub fn all_words() -> [u32; 516]
+    ensures { λ r. ⌜ length r ≡ allWords ⌝ }
+{
+    [0u32; 516]
+}
+
+// The answer as number and counts.
 fn by_number(answer: Answer, window: Window) -> Reply
     ensures { λ r. ⌜ r ≡ numbered answer window ⌝ }
 {
     Reply {
         number: answer::number(answer) as u32,
         count: answer::count(answer),
+        spoilt: answer::spoilt(answer),
         window,
     }
 }
@@ -85,13 +106,14 @@ pub fn open(
     ssrc: u32,
     media: &mut [u8],
     timestamps: &mut [u32],
+    lengths: &mut [u16],
     marks: &mut [u8],
     parity: &mut [u8],
     len: usize,
 ) -> Finished
     ensures { λ r. ⌜ (r .rows ≤ len) × ((t : List Record) → length t ≡ len
-        → record { reply = r .reply; store = stored (now (media .exit)) (now (timestamps .exit)) (now (marks .exit)) (now (parity .exit)) (wiped (r .rows) t) }
-        ≡ replied (opened (asked base ssrc l d p n k) (stored (now (media .entry)) (now (timestamps .entry)) (now (marks .entry)) (now (parity .entry)) t))) ⌝ }
+        → record { reply = r .reply; store = stored (now (media .exit)) (now (timestamps .exit)) (now (lengths .exit)) (now (marks .exit)) (now (parity .exit)) (wiped (r .rows) t) }
+        ≡ replied (opened (asked base ssrc l d p n k) (stored (now (media .entry)) (now (timestamps .entry)) (now (lengths .entry)) (now (marks .entry)) (now (parity .entry)) t))) ⌝ }
 {
     let r = Receiver::open(
         base,
@@ -103,6 +125,7 @@ pub fn open(
         k,
         media,
         timestamps,
+        lengths,
         marks,
         parity,
         len,
@@ -123,18 +146,29 @@ pub fn media(
     datagram: &[u8],
     media: &mut [u8],
     timestamps: &mut [u32],
+    lengths: &mut [u16],
     marks: &mut [u8],
     parity: &mut [u8],
     words: &mut [u32],
     m: usize,
     len: usize,
 ) -> Finished
-    requires { ⌜ length (now words) ≡ handWords ⌝ }
-    ensures { λ r. ⌜ Done (λ s. replied (offeredMedia w (now (datagram .entry)) s)) len (w .k) m (now (media .entry)) (now (timestamps .entry)) (now (marks .entry)) (now (parity .entry)) (now (words .entry))
-        (now (media .exit)) (now (timestamps .exit)) (now (marks .exit)) (now (parity .exit)) (now (words .exit)) r ⌝ }
+    requires { ⌜ (m + 1) * rowWords ≤ length (now words) ⌝ }
+    ensures { λ r. ⌜ Done (λ s. replied (offeredMedia w (now (datagram .entry)) s)) len (w .k) m (now (media .entry)) (now (timestamps .entry)) (now (lengths .entry)) (now (marks .entry)) (now (parity .entry)) (now (words .entry))
+        (now (media .exit)) (now (timestamps .exit)) (now (lengths .exit)) (now (marks .exit)) (now (parity .exit)) (now (words .exit)) r ⌝ }
 {
     let receiver = Receiver { window: w };
-    let r = receiver.media(datagram, media, timestamps, marks, parity, words, m, len);
+    let r = receiver.media(
+        datagram,
+        media,
+        timestamps,
+        lengths,
+        marks,
+        parity,
+        words,
+        m,
+        len,
+    );
     let answer = r.answer;
     let next = r.receiver;
     let window = next.window;
@@ -147,18 +181,29 @@ pub fn column(
     datagram: &[u8],
     media: &mut [u8],
     timestamps: &mut [u32],
+    lengths: &mut [u16],
     marks: &mut [u8],
     parity: &mut [u8],
     words: &mut [u32],
     m: usize,
     len: usize,
 ) -> Finished
-    requires { ⌜ length (now words) ≡ handWords ⌝ }
-    ensures { λ r. ⌜ Done (λ s. replied (offeredParity column w (now (datagram .entry)) s)) len (w .k) m (now (media .entry)) (now (timestamps .entry)) (now (marks .entry)) (now (parity .entry)) (now (words .entry))
-        (now (media .exit)) (now (timestamps .exit)) (now (marks .exit)) (now (parity .exit)) (now (words .exit)) r ⌝ }
+    requires { ⌜ (m + 1) * rowWords ≤ length (now words) ⌝ }
+    ensures { λ r. ⌜ Done (λ s. replied (offeredParity column w (now (datagram .entry)) s)) len (w .k) m (now (media .entry)) (now (timestamps .entry)) (now (lengths .entry)) (now (marks .entry)) (now (parity .entry)) (now (words .entry))
+        (now (media .exit)) (now (timestamps .exit)) (now (lengths .exit)) (now (marks .exit)) (now (parity .exit)) (now (words .exit)) r ⌝ }
 {
     let receiver = Receiver { window: w };
-    let r = receiver.column(datagram, media, timestamps, marks, parity, words, m, len);
+    let r = receiver.column(
+        datagram,
+        media,
+        timestamps,
+        lengths,
+        marks,
+        parity,
+        words,
+        m,
+        len,
+    );
     let answer = r.answer;
     let next = r.receiver;
     let window = next.window;
@@ -171,18 +216,29 @@ pub fn row(
     datagram: &[u8],
     media: &mut [u8],
     timestamps: &mut [u32],
+    lengths: &mut [u16],
     marks: &mut [u8],
     parity: &mut [u8],
     words: &mut [u32],
     m: usize,
     len: usize,
 ) -> Finished
-    requires { ⌜ length (now words) ≡ handWords ⌝ }
-    ensures { λ r. ⌜ Done (λ s. replied (offeredParity row w (now (datagram .entry)) s)) len (w .k) m (now (media .entry)) (now (timestamps .entry)) (now (marks .entry)) (now (parity .entry)) (now (words .entry))
-        (now (media .exit)) (now (timestamps .exit)) (now (marks .exit)) (now (parity .exit)) (now (words .exit)) r ⌝ }
+    requires { ⌜ (m + 1) * rowWords ≤ length (now words) ⌝ }
+    ensures { λ r. ⌜ Done (λ s. replied (offeredParity row w (now (datagram .entry)) s)) len (w .k) m (now (media .entry)) (now (timestamps .entry)) (now (lengths .entry)) (now (marks .entry)) (now (parity .entry)) (now (words .entry))
+        (now (media .exit)) (now (timestamps .exit)) (now (lengths .exit)) (now (marks .exit)) (now (parity .exit)) (now (words .exit)) r ⌝ }
 {
     let receiver = Receiver { window: w };
-    let r = receiver.row(datagram, media, timestamps, marks, parity, words, m, len);
+    let r = receiver.row(
+        datagram,
+        media,
+        timestamps,
+        lengths,
+        marks,
+        parity,
+        words,
+        m,
+        len,
+    );
     let answer = r.answer;
     let next = r.receiver;
     let window = next.window;
@@ -195,6 +251,7 @@ pub fn read(
     number: u16,
     media: &[u8],
     timestamps: &[u32],
+    lengths: &[u16],
     marks: &[u8],
     parity: &[u8],
     words: &mut [u32],
@@ -202,11 +259,22 @@ pub fn read(
     len: usize,
     out: &mut [u8],
 ) -> Reply
-    requires { ⌜ length (now words) ≡ handWords ⌝ }
-    ensures { λ r. ⌜ Given (λ s o. filled (readOut w number s o)) len (w .k) m (now (media .entry)) (now (timestamps .entry)) (now (marks .entry)) (now (parity .entry)) (now (words .entry)) (now (out .entry)) (now (out .exit)) r ⌝ }
+    requires { ⌜ (m + 1) * rowWords ≤ length (now words) ⌝ }
+    ensures { λ r. ⌜ Given (λ s o. filled (readOut w number s o)) len (w .k) m (now (media .entry)) (now (timestamps .entry)) (now (lengths .entry)) (now (marks .entry)) (now (parity .entry)) (now (words .entry)) (now (out .entry)) (now (out .exit)) r ⌝ }
 {
     let receiver = Receiver { window: w };
-    let r = receiver.read(number, media, timestamps, marks, parity, words, m, len, out);
+    let r = receiver.read(
+        number,
+        media,
+        timestamps,
+        lengths,
+        marks,
+        parity,
+        words,
+        m,
+        len,
+        out,
+    );
     let answer = r.answer;
     let next = r.receiver;
     let window = next.window;
@@ -222,6 +290,7 @@ pub fn write_column(
     ssrc: u32,
     media: &[u8],
     timestamps: &[u32],
+    lengths: &[u16],
     marks: &[u8],
     parity: &[u8],
     words: &mut [u32],
@@ -229,8 +298,8 @@ pub fn write_column(
     len: usize,
     out: &mut [u8],
 ) -> Reply
-    requires { ⌜ length (now words) ≡ handWords ⌝ }
-    ensures { λ r. ⌜ Given (λ s o. filled (wroteParity column w snbase (record { sequence = sequence; timestamp = timestamp; ssrc = ssrc }) s o)) len (w .k) m (now (media .entry)) (now (timestamps .entry)) (now (marks .entry)) (now (parity .entry)) (now (words .entry)) (now (out .entry)) (now (out .exit)) r ⌝ }
+    requires { ⌜ (m + 1) * rowWords ≤ length (now words) ⌝ }
+    ensures { λ r. ⌜ Given (λ s o. filled (wroteParity column w snbase (record { sequence = sequence; timestamp = timestamp; ssrc = ssrc }) s o)) len (w .k) m (now (media .entry)) (now (timestamps .entry)) (now (lengths .entry)) (now (marks .entry)) (now (parity .entry)) (now (words .entry)) (now (out .entry)) (now (out .exit)) r ⌝ }
 {
     let receiver = Receiver { window: w };
     let r = receiver.write_column(
@@ -240,6 +309,7 @@ pub fn write_column(
         ssrc,
         media,
         timestamps,
+        lengths,
         marks,
         parity,
         words,
@@ -262,6 +332,7 @@ pub fn write_row(
     ssrc: u32,
     media: &[u8],
     timestamps: &[u32],
+    lengths: &[u16],
     marks: &[u8],
     parity: &[u8],
     words: &mut [u32],
@@ -269,8 +340,8 @@ pub fn write_row(
     len: usize,
     out: &mut [u8],
 ) -> Reply
-    requires { ⌜ length (now words) ≡ handWords ⌝ }
-    ensures { λ r. ⌜ Given (λ s o. filled (wroteParity row w snbase (record { sequence = sequence; timestamp = timestamp; ssrc = ssrc }) s o)) len (w .k) m (now (media .entry)) (now (timestamps .entry)) (now (marks .entry)) (now (parity .entry)) (now (words .entry)) (now (out .entry)) (now (out .exit)) r ⌝ }
+    requires { ⌜ (m + 1) * rowWords ≤ length (now words) ⌝ }
+    ensures { λ r. ⌜ Given (λ s o. filled (wroteParity row w snbase (record { sequence = sequence; timestamp = timestamp; ssrc = ssrc }) s o)) len (w .k) m (now (media .entry)) (now (timestamps .entry)) (now (lengths .entry)) (now (marks .entry)) (now (parity .entry)) (now (words .entry)) (now (out .entry)) (now (out .exit)) r ⌝ }
 {
     let receiver = Receiver { window: w };
     let r = receiver.write_row(
@@ -280,6 +351,7 @@ pub fn write_row(
         ssrc,
         media,
         timestamps,
+        lengths,
         marks,
         parity,
         words,

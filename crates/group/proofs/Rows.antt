@@ -1,24 +1,25 @@
 -- The members of a group that are present, as rows of the store: they lie in the window, so their rows lie in the media store. Assumes nothing.
-use mathlib.Core.Path.{_≡_, refl, sym, ap, _∙_}
+use mathlib.Core.Path.{_≡_, refl, sym, ap, ap₂, _∙_}
 use mathlib.Core.Bool.{Bool, true, false, cond, not}
 use mathlib.Core.List.{List, [], _∷_, _++_, map}
 use Prim.Native.Nat.{ℕ, zero, suc, _+_, _*_, _^_, _<_, _≤_}
 use native.Mathlib.Nat.{mul-le-mul-right, suc-mul}
 use native.Mathlib.Omega.{arith}
-use lib.ListN.{length, getD, take, drop, length-drop}
-use lib.Seq.{paste, getD-take, length-take-le}
+use lib.ListN.{length, getD, take, drop, replicate, length-drop, length-replicate}
+use lib.Seq.{paste, getD-take, take-all, length-take-le, length-paste}
 use Rattle.sequence.specs.Lists.{upTo, keep, map-append}
 use Rattle.rtp.specs.Fec.{offsetOf, naOf}
-use Rattle.parity.specs.Rows.{places, Rows}
+use Rattle.parity.specs.Rows.{Rows, rowOf}
+use Rattle.parity.specs.Own.{length-own, length-sum}
 use lib.Bits.{bitXor}
-use Rattle.xor.specs.Xor.{zipXor, xorAll, xorParts, xorPayloads}
-use Rattle.parity.specs.Sum.{Ends, rowAt, pasted, parts-sum, paste-self, through-buffer, length-payloads}
+use Rattle.xor.specs.Xor.{zipXor, xorAll, xorPayloads, padded, take-zip, le-zip}
+use Rattle.xor.specs.Padded.{take-replicate, take-padded, zeros-front, take-front}
 use Rattle.window.specs.declared.Window.{Window}
 use Rattle.window.specs.Limits.{width, mostSide}
 use Rattle.window.specs.Bounds.{SetUp}
 use Rattle.window.specs.Group.{group, isMissing, present}
 use Rattle.window.specs.Plain.{Inside, shape-of, place, group-plain}
-use Rattle.calls.specs.Content.{timestampOver, payloadOver}
+use Rattle.calls.specs.Content.{numberOver, payloadOver}
 use Rattle.group.specs.Along.{memberAt, along}
 use Rattle.group.specs.Held.{Below, Held}
 use Rattle.group.proofs.Along.{along-below, along-group}
@@ -48,10 +49,6 @@ below-getD b (j ∷ l) p (suc i) h = below-getD b l (p .1) i (omega arith)
 pub row-ends : (i n p m : ℕ) → i < n → n * p ≤ m → i * p + p ≤ m
 row-ends i n p m h e = let k = rw (suc-mul i p) at (mul-le-mul-right p h) in omega arith
 
-pub below-ends : (n p : ℕ) (media : List ℕ) → n * p ≤ length media → (l : List ℕ) → Below n l → Ends p media l
-below-ends n p media e [] q = tt
-below-ends n p media e (i ∷ l) q = (row-ends i n p (length media) (q .0) e, below-ends n p media e l (q .1))
-
 -- ---- a group inside a window, its step and size as the code has them
 module _ (w : Window) (based : w .base < 2 ^ width) (u : SetUp w) (stream snbase : ℕ) (inside : Inside w stream snbase) (offset na : ℕ) (eo : offset ≡ offsetOf stream (w .l)) (en : na ≡ naOf stream (w .l) (w .d)) where
   pub is-held : (marks rows : List ℕ) (m : ℕ) → m ≤ na → length rows ≡ mostSide → take m rows ≡ present marks (along (w .base) snbase offset na) → Held (group w stream snbase) marks (w .n) rows m
@@ -74,23 +71,26 @@ module _ (group marks : List ℕ) (n : ℕ) (rows : List ℕ) (m : ℕ) (h : Hel
   pub rows-asked : (p : ℕ) (media : List ℕ) → n * p ≤ length media → Rows rows m p (length media)
   rows-asked p media e = record { long = m-long; ends = λ i k. row-ends (getD rows i 0) n p (length media) (row-below i k) e }
 
-  pub timestamps-asked : (timestamps : List ℕ) → n ≤ length timestamps → (m ≤ length rows) × ((i : ℕ) → i < m → getD rows i 0 < length timestamps)
-  timestamps-asked timestamps e = (m-long, λ i k. let q = row-below i k in omega arith)
+  pub numbers-asked : (timestamps : List ℕ) → n ≤ length timestamps → (m ≤ length rows) × ((i : ℕ) → i < m → getD rows i 0 < length timestamps)
+  numbers-asked timestamps e = (m-long, λ i k. let q = row-below i k in omega arith)
 
-  -- their timestamps
-  pub timestamps-held : (timestamps : List ℕ) (timestamp : ℕ) → bitXor timestamp (xorAll (map (λ i. getD timestamps i 0) (take m rows))) ≡ timestampOver timestamps marks group timestamp
-  timestamps-held timestamps timestamp = ap (λ (l : List ℕ). bitXor timestamp (xorAll (map (λ i. getD timestamps i 0) l))) (h .are)
+  -- their timestamps, or their lengths
+  pub numbers-held : (part : List ℕ) (number : ℕ) → bitXor number (xorAll (map (λ i. getD part i 0) (take m rows))) ≡ numberOver part marks group number
+  numbers-held part number = ap (λ (l : List ℕ). bitXor number (xorAll (map (λ i. getD part i 0) l))) (h .are)
 
-  module _ (p : ℕ) (media : List ℕ) (e : n * p ≤ length media) (to : ℕ) (d : List ℕ) (room : to + p ≤ length d) where
-    -- their payloads, xored into what was pasted
-    pub rows-laid : (z : List ℕ) → p ≤ length z → xorParts media (places p (take m rows)) to p (paste d to z p) ≡ paste d to (payloadOver p media marks group z) p
-    rows-laid z k =
-        parts-sum p media to d room (take m rows) z (below-ends n p media e (take m rows) (h .below)) k
-        ∙ ap (λ (l : List ℕ). paste d to (zipXor z (xorPayloads p (map (rowAt p media) l))) p) (h .are)
+  -- their payloads
+  pub payloads-held : (p : ℕ) (media lengths z : List ℕ) → zipXor z (xorPayloads p (map (rowOf p p media lengths) (take m rows))) ≡ payloadOver p media lengths marks group z
+  payloads-held p media lengths z = ap (λ (l : List ℕ). zipXor z (xorPayloads p (map (rowOf p p media lengths) l))) (h .are)
 
-    -- and into what stood there
-    pub rows-over : xorParts media (places p (take m rows)) to p d ≡ paste d to (payloadOver p media marks group (drop to d)) p
-    rows-over = ap (xorParts media (places p (take m rows)) to p) (paste-self p media to d room) ∙ rows-laid (drop to d) (simp length-drop (omega arith))
+  -- the first n bytes of their exclusive-or
+  pub payloads-front : (p k : ℕ) (media lengths : List ℕ) → k ≤ p → xorPayloads k (map (rowOf p k media lengths) (take m rows)) ≡ take k (xorPayloads p (map (rowOf p p media lengths) (present marks group)))
+  payloads-front p k media lengths b = ap (λ (l : List ℕ). xorPayloads k (map (rowOf p k media lengths) l)) (h .are) ∙ go (present marks group)
+    where
+      go : (l : List ℕ) → xorPayloads k (map (rowOf p k media lengths) l) ≡ take k (xorPayloads p (map (rowOf p p media lengths) l))
+      go [] = sym (take-replicate k p b)
+      go (i ∷ l) =
+          ap₂ zipXor (sym (take-padded k p (take (getD lengths i 0) (drop (i * p) media)) b)) (go l)
+          ∙ sym (take-zip k (rowOf p p media lengths i) (xorPayloads p (map (rowOf p p media lengths) l)))
 
 -- ---- a group inside a window, by its definition
 module _ (w : Window) (based : w .base < 2 ^ width) (u : SetUp w) (stream snbase : ℕ) (inside : Inside w stream snbase) where
@@ -100,16 +100,16 @@ module _ (w : Window) (based : w .base < 2 ^ width) (u : SetUp w) (stream snbase
   pub kept-below : (test : ℕ → Bool) → Below (w .n) (keep test (group w stream snbase))
   kept-below test = below-keep (w .n) test (group w stream snbase) group-below
 
-  pub held-ends : (marks : List ℕ) (p : ℕ) (media : List ℕ) → w .n * p ≤ length media → Ends p media (present marks (group w stream snbase))
-  held-ends marks p media h = below-ends (w .n) p media h (present marks (group w stream snbase)) (kept-below (λ i. not (isMissing marks i)))
-
--- a recovery of p bytes, copied into a buffer, added up there and copied to its row
-pub through : (p at from : ℕ) (media marks group recovery buffer s t : List ℕ) → p ≤ length buffer → from + p ≤ length recovery → Ends p media (present marks group)
-    → s ≡ paste buffer 0 (drop from recovery) p → t ≡ paste s 0 (payloadOver p media marks group s) p
-    → paste media at t p ≡ paste media at (payloadOver p media marks group (take p (drop from recovery))) p
-through p at from media marks group recovery buffer s t hb hr e es et =
-    let x : List ℕ = xorPayloads p (map (rowAt p media) (present marks group)) in
+-- a recovery of `size` bytes, copied into zeros and added up there: the first p bytes are the exclusive-or of the recovery, with zeros up to p, and of what is held
+pub through : (p size from most : ℕ) (media lengths marks group recovery s t : List ℕ) → size ≤ p → p ≤ most → from + size ≤ length recovery
+    → s ≡ paste (replicate most 0) 0 (drop from recovery) size → t ≡ paste s 0 (payloadOver p media lengths marks group s) p
+    → take p t ≡ payloadOver p media lengths marks group (padded p (take size (drop from recovery)))
+through p size from most media lengths marks group recovery s t hs hp hr es et =
+    let x : List ℕ = xorPayloads p (map (rowOf p p media lengths) (present marks group)) in
     let v : List ℕ = drop from recovery in
-    let hv : p ≤ length v = simp length-drop (omega arith) in
-    pasted p at media t (zipXor (take p v) x)
-    (ap (take p) (et ∙ ap (λ (y : List ℕ). paste y 0 (zipXor y x) p) es) ∙ through-buffer p buffer v x hb hv (omega (arith, length-payloads p media (present marks group) e)))
+    let lx : length x ≡ p = length-sum p (rowOf p p media lengths) (length-own p p media lengths) (present marks group) in
+    let hv : size ≤ length v = simp length-drop (omega arith) in
+    let front : take p s ≡ padded p (take size v) = ap (take p) es ∙ zeros-front p size most v hs hp hv in
+    let zs = length-replicate {A = ℕ} most 0 in
+    let ls : length s ≡ most = ap length es ∙ length-paste (replicate most 0) 0 v size (omega arith) hv ∙ zs in
+    ap (take p) et ∙ take-front s (zipXor s x) p (omega arith) (le-zip p s x (omega arith) (omega arith)) ∙ take-zip p s x ∙ ap₂ zipXor front (take-all p x (omega arith))

@@ -2,17 +2,25 @@
 // them added up; and the one missing packet rebuilt from it.
 use window::Window;
 ghost use mathlib.Core.Path.{_≡_};
-ghost use Prim.Native.Nat.{ℕ, _+_, _*_, _≤_, _<_};
-ghost use lib.ListN.{length, drop, take, set, replicate};
+ghost use mathlib.Core.Bool.{true, false, _&&_};
+ghost use mathlib.Core.List.{map};
+ghost use Prim.Native.Nat.{ℕ, max, _+_, _*_, _≤_, _<_};
+ghost use lib.Dec.{eqb};
+ghost use lib.ListN.{length, getD, drop, take};
 ghost use lib.Seq.{paste};
-ghost use Rattle.sequence.specs.Lists.{count, headOr};
+ghost use lib.Bits.{bitXor};
+ghost use Rattle.sequence.specs.Lists.{all, count, headOr};
+ghost use Rattle.xor.specs.Xor.{xorAll, xorPayloads, padded};
+ghost use Rattle.rtp.specs.Length.{wholeUnits};
+ghost use Rattle.window.specs.Store.{payloadIn};
 ghost use Rattle.window.specs.Limits.{mostSide};
 ghost use Rattle.window.specs.Bounds.{SetUp};
 ghost use Rattle.window.specs.Group.{group, isMissing, missing, present};
 ghost use Rattle.window.specs.Plain.{Inside};
-ghost use Rattle.calls.specs.Content.{timestampOver, payloadOver};
+ghost use Rattle.calls.specs.Content.{longest, numberOver, payloadOver};
 ghost use Rattle.group.specs.Along.{memberAt, along};
 ghost use Rattle.group.specs.Held.{Held};
+ghost use Rattle.group.specs.Tried.{Tried};
 
 // ---- the members that are missing
 
@@ -110,30 +118,87 @@ fn members_held(w: Window, stream: u8, snbase: u16, marks: &[u8]) -> Members
     held_along(marks, w.base, snbase, offset, na)
 }
 
-// The payloads held of a group xored into a buffer from a place on; the timestamps held xored with a number.
-pub fn add_up(
+// The timestamp and the length of an exclusive-or.
+pub struct Sums {
+    pub timestamp: u32,
+    pub length: u16,
+}
+
+// The payloads held of a group xored into a buffer from a place on; the timestamps and the lengths held xored each with a number.
+fn add_up(
     sum: &mut [u8],
     to: usize,
     w: Window,
     stream: u8,
     snbase: u16,
     timestamp: u32,
+    length_recovery: u16,
     media: &[u8],
     timestamps: &[u32],
+    lengths: &[u16],
     marks: &[u8],
-) -> u32
-    requires { ⌜ SetUp w × Inside w stream snbase × (to + w .p ≤ length (now sum)) × (w .n * w .p ≤ length (now media)) × (w .n ≤ length (now timestamps)) × (w .n ≤ length (now marks)) ⌝ }
-    ensures { λ r. ⌜ (r ≡ timestampOver (now (timestamps .entry)) (now (marks .entry)) (group w stream snbase) timestamp)
-        × (now (sum .exit) ≡ paste (now (sum .entry)) to (payloadOver (w .p) (now (media .entry)) (now (marks .entry)) (group w stream snbase) (drop to (now (sum .entry)))) (w .p)) ⌝ }
+) -> Sums
+    requires { ⌜ SetUp w × Inside w stream snbase × (to + w .p ≤ length (now sum)) × (w .n * w .p ≤ length (now media)) × (w .n ≤ length (now timestamps)) × (w .n ≤ length (now lengths)) × (w .n ≤ length (now marks)) ⌝ }
+    ensures { λ r. ⌜ (r .timestamp ≡ numberOver (now (timestamps .entry)) (now (marks .entry)) (group w stream snbase) timestamp)
+        × (r .length ≡ numberOver (now (lengths .entry)) (now (marks .entry)) (group w stream snbase) «length_recovery»)
+        × (now (sum .exit) ≡ paste (now (sum .entry)) to (payloadOver (w .p) (now (media .entry)) (now (lengths .entry)) (now (marks .entry)) (group w stream snbase) (drop to (now (sum .entry)))) (w .p)) ⌝ }
 {
     let m = members_held(w, stream, snbase, marks);
     let rows = m.rows;
     let n = m.n;
-    parity::xor_rows(sum, to, media, &rows, 0, n, w.p);
-    parity::xor_timestamps(timestamps, &rows, n, timestamp)
+    parity::add_rows(sum, to, media, lengths, &rows, n, w.p);
+    Sums {
+        timestamp: parity::xor_timestamps(timestamps, &rows, n, timestamp),
+        length: parity::xor_lengths(lengths, &rows, n, length_recovery),
+    }
 }
 
-// The payloads held of a group laid over a buffer from a place on, whatever stood there; the timestamps held.
+// ---- the parity of a group
+
+// What the lengths of some rows come to: their exclusive-or, the longest of them, and whether each is p.
+pub struct Measured {
+    pub all: u16,
+    pub most: u16,
+    pub full: bool,
+}
+
+// The lengths of the first n rows, looked at once.
+fn measure(lengths: &[u16], rows: &[usize], n: usize, p: usize) -> Measured
+    requires { ⌜ (n ≤ length (now rows)) × ((i : ℕ) → i < n → getD (now rows) i 0 < length (now lengths)) ⌝ }
+    ensures { λ r. ⌜ (r .all ≡ bitXor 0 (xorAll (map (λ i. getD (now (lengths .entry)) i 0) (take n (now (rows .entry))))))
+        × (r .most ≡ longest (map (λ i. getD (now (lengths .entry)) i 0) (take n (now (rows .entry)))))
+        × (r .full ≡ true → (i : ℕ) → i < n → getD (now (lengths .entry)) (getD (now (rows .entry)) i 0) 0 ≡ p) ⌝ }
+{
+    let mut all: u16 = 0;
+    let mut most: u16 = 0;
+    let mut full = true;
+    let mut i = 0;
+    while i < n {
+        let row = rows[i];
+        let one = lengths[row];
+        all = all ^ one;
+        most = larger(most, one);
+        full = full & (rtp::wide(one) == p);
+        i += 1;
+    }
+    Measured { all, most, full }
+}
+
+// The larger of two lengths.
+fn larger(a: u16, b: u16) -> u16
+    ensures { λ r. ⌜ r ≡ max a b ⌝ }
+{
+    if a < b { b } else { a }
+}
+
+// The timestamp and the length of an exclusive-or, and how long its payload is.
+pub struct Laid {
+    pub timestamp: u32,
+    pub length: u16,
+    pub size: usize,
+}
+
+// The payloads held of a group laid over a buffer from a place on, as long as the longest of them; the timestamps and the lengths held.
 pub fn sum_up(
     sum: &mut [u8],
     to: usize,
@@ -142,54 +207,88 @@ pub fn sum_up(
     snbase: u16,
     media: &[u8],
     timestamps: &[u32],
+    lengths: &[u16],
     marks: &[u8],
-) -> u32
-    requires { ⌜ SetUp w × Inside w stream snbase × (to + w .p ≤ length (now sum)) × (w .n * w .p ≤ length (now media)) × (w .n ≤ length (now timestamps)) × (w .n ≤ length (now marks)) ⌝ }
-    ensures { λ r. ⌜ (r ≡ timestampOver (now (timestamps .entry)) (now (marks .entry)) (group w stream snbase) 0)
-        × (now (sum .exit) ≡ paste (now (sum .entry)) to (payloadOver (w .p) (now (media .entry)) (now (marks .entry)) (group w stream snbase) (replicate (w .p) 0)) (w .p)) ⌝ }
+) -> Laid
+    requires { ⌜ SetUp w × Inside w stream snbase × (to + w .p ≤ length (now sum)) × (w .n * w .p ≤ length (now media)) × (w .n ≤ length (now timestamps)) × (w .n ≤ length (now lengths)) × (w .n ≤ length (now marks))
+        × ((i : ℕ) → i < w .n → isMissing (now marks) i ≡ false → getD (now lengths) i 0 ≤ w .p) ⌝ }
+    ensures { λ r. ⌜ (r .timestamp ≡ numberOver (now (timestamps .entry)) (now (marks .entry)) (group w stream snbase) 0)
+        × (r .length ≡ numberOver (now (lengths .entry)) (now (marks .entry)) (group w stream snbase) 0)
+        × (r .size ≡ longest (map (λ i. getD (now (lengths .entry)) i 0) (present (now (marks .entry)) (group w stream snbase)))) × (r .size ≤ w .p)
+        × (now (sum .exit) ≡ paste (now (sum .entry)) to (xorPayloads (w .p) (map (λ i. payloadIn (w .p) (now (media .entry)) (getD (now (lengths .entry)) i 0) i) (present (now (marks .entry)) (group w stream snbase)))) (r .size)) ⌝ }
 {
     let m = members_held(w, stream, snbase, marks);
     let rows = m.rows;
     let n = m.n;
-    parity::sum_rows(sum, to, media, &rows, n, w.p);
-    parity::xor_timestamps(timestamps, &rows, n, 0)
+    let r = measure(lengths, &rows, n, w.p);
+    let size = rtp::wide(r.most);
+    let full = r.full & (size == w.p);
+    parity::lay_rows(sum, to, media, lengths, &rows, n, w.p, size, full);
+    Laid {
+        timestamp: parity::xor_timestamps(timestamps, &rows, n, 0),
+        length: r.all,
+        size,
+    }
 }
 
 // ---- the one missing packet
 
-// The one missing packet of a group, at position i, rebuilt from a recovery: p bytes of a slice from a place on.
+// What a parity packet of `size` payload bytes gives fits it: its length is one or more whole units, no more than that, and only
+// zeros stand past it, up to p.
+fn fits_in(sum: &[u8], p: usize, size: usize, n: usize) -> bool
+    requires { ⌜ (size ≤ p) × (p ≤ length (now sum)) ⌝ }
+    ensures { λ r. ⌜ r ≡ (wholeUnits p size n && all (λ b. eqb b 0) (drop n (take p (now (sum .entry))))) ⌝ }
+{
+    if !rtp::whole_units(p, size, n) {
+        return false;
+    }
+    xor::zeros_at(sum, n, p - n)
+}
+
+// The one missing packet of a group, at position i, rebuilt from a recovery, of which `size` payload bytes stand in a slice from a place on;
+// or nothing, where the recovery is spoilt.
 pub fn rebuild_at(
     w: Window,
     stream: u8,
     snbase: u16,
     i: usize,
     timestamp: u32,
+    length_recovery: u16,
+    size: usize,
     recovery: &[u8],
     from: usize,
     media: &mut [u8],
     timestamps: &mut [u32],
+    lengths: &mut [u16],
     marks: &mut [u8],
-)
-    requires { ⌜ SetUp w × Inside w stream snbase × (i < w .n) × (from + w .p ≤ length (now recovery)) × (w .n * w .p ≤ length (now media)) × (w .n ≤ length (now timestamps)) × (w .n ≤ length (now marks)) ⌝ }
-    ensures { λ _. ⌜ (now (media .exit) ≡ paste (now (media .entry)) (i * w .p) (payloadOver (w .p) (now (media .entry)) (now (marks .entry)) (group w stream snbase) (take (w .p) (drop from (now (recovery .entry))))) (w .p))
-        × (now (timestamps .exit) ≡ set (now (timestamps .entry)) i (timestampOver (now (timestamps .entry)) (now (marks .entry)) (group w stream snbase) timestamp))
-        × (now (marks .exit) ≡ set (now (marks .entry)) i 1) ⌝ }
+) -> bool
+    requires { ⌜ SetUp w × Inside w stream snbase × (i < w .n) × (size ≤ w .p) × (from + size ≤ length (now recovery)) × (w .n * w .p ≤ length (now media)) × (w .n ≤ length (now timestamps)) × (w .n ≤ length (now lengths)) × (w .n ≤ length (now marks)) ⌝ }
+    ensures { λ r. ⌜ Tried w (group w stream snbase) i (record { content = record { timestamp = timestamp; length = «length_recovery»; payload = padded (w .p) (take size (drop from (now (recovery .entry)))) }; size = size }) r
+        (now (media .entry)) (now (timestamps .entry)) (now (lengths .entry)) (now (marks .entry)) (now (media .exit)) (now (timestamps .exit)) (now (lengths .exit)) (now (marks .exit)) ⌝ }
 {
     let p = w.p;
     let mut sum = [0u8; 1428];
-    xor::copy_at(&mut sum, 0, recovery, from, p);
-    let rebuilt = add_up(
+    xor::copy_at(&mut sum, 0, recovery, from, size);
+    let r = add_up(
         &mut sum,
         0,
         w,
         stream,
         snbase,
         timestamp,
+        length_recovery,
         media,
         timestamps,
+        lengths,
         marks,
     );
+    let n = rtp::wide(r.length);
+    if !fits_in(&sum, p, size, n) {
+        return false;
+    }
     xor::copy_at(media, i * p, &sum, 0, p);
-    timestamps[i] = rebuilt;
+    timestamps[i] = r.timestamp;
+    lengths[i] = r.length;
     marks[i] = 1;
+    true
 }

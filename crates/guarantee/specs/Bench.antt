@@ -34,9 +34,10 @@ unclearedStore w =
     record {
       media = replicate (w .n * w .p) 7;
       timestamps = replicate (w .n) 7;
+      lengths = replicate (w .n) 7;
       marks = replicate (w .n) 7;
       parity = replicate (w .k * w .p) 7;
-      records = replicate (w .k) (record { stream = 7; «in_use» = 7; snbase = 7; «timestamp_recovery» = 7 });
+      records = replicate (w .k) (record { stream = 7; «in_use» = 7; snbase = 7; «timestamp_recovery» = 7; «length_recovery» = 7; «payload_length» = 7 });
     }
 
 -- a window freshly opened on such a store
@@ -65,7 +66,12 @@ zeros = replicate 188 0
 
 -- the parity packet of a group of four packets with these timestamps and payloads of zeros
 parity : (timestamps : List ℕ) (stream snbase : ℕ) → List ℕ
-parity timestamps stream snbase = parityPacket outer stream 4 4 188 snbase (record { timestamp = xorAll timestamps; payload = xorPayloads 188 (zeros ∷ zeros ∷ zeros ∷ zeros ∷ []) })
+parity timestamps stream snbase =
+    parityPacket outer stream 4 4 snbase
+    (record {
+      content = record { timestamp = xorAll timestamps; length = xorAll (replicate 4 188); payload = xorPayloads 188 (zeros ∷ zeros ∷ zeros ∷ zeros ∷ []) };
+      size = 188;
+    })
 
 -- the number that a parity packet is answered with on that window
 offer : (stream snbase : ℕ) → ℕ
@@ -73,7 +79,7 @@ offer stream snbase = numberOf (offeredParity stream (grid .window) (parity time
 
 -- a media packet is offered, with a payload of zeros
 media : (number timestamp : ℕ) → Outcome → Outcome
-media number timestamp x = offeredMedia (x .window) (mediaPacket number 0 (record { timestamp = timestamp; payload = zeros })) (x .store)
+media number timestamp x = offeredMedia (x .window) (mediaPacket number 0 (record { timestamp = timestamp; length = 188; payload = zeros })) (x .store)
 
 -- case 4's group on that window, the packet with 4,000 missing, then its column parity
 rebuilt : Outcome
@@ -123,7 +129,7 @@ cases =
     ∷ record { number = 6; got = offer row 6 ∷ offer row 7 ∷ []; said = 0 ∷ 13 ∷ [] }
     ∷ record { number = 7; got = xorAll timestamps ∷ []; said = 32 ∷ [] }
     ∷ record { number = 7; got = numberOf (rebuilt .answer) ∷ countOf (rebuilt .answer) ∷ timestampAt (rebuilt .store) 12 ∷ []; said = 0 ∷ 1 ∷ 4000 ∷ [] }
-    ∷ record { number = 8; got = take 3 (drop 2 (fecHeader column 4 5 1316 0 0)); said = 0x05 ∷ 0x24 ∷ 0xA1 ∷ [] }
+    ∷ record { number = 8; got = take 3 (drop 2 (fecHeader column 4 5 0 (xorAll (replicate 5 1316)) 0)); said = 0x05 ∷ 0x24 ∷ 0xA1 ∷ [] }
     ∷ record {
       number = 9;
       got = take 28 (parity timestamps column 65530);

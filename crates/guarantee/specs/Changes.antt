@@ -14,17 +14,20 @@ use borrow.Author.Tests.{eqb-true, ne-eqb}
 use Rattle.sequence.specs.Lists.{upTo, count}
 use Rattle.window.specs.declared.Record.{Record}
 use Rattle.window.specs.declared.Window.{Window}
+use Rattle.rtp.specs.Length.{goodLength}
 use Rattle.window.specs.Record.{blank}
 use Rattle.window.specs.Limits.{rows}
 use Rattle.window.specs.Bounds.{Sized}
-use Rattle.window.specs.Store.{Store, recordAt}
+use Rattle.window.specs.Store.{Store, lengthAt, recordAt}
 use Rattle.window.specs.Group.{isMissing}
 use Rattle.window.specs.Order.{isPresent, usedBy, inUse, groupAt}
-use Rattle.calls.specs.Content.{Content, contentAt, recoveryAt}
+use Rattle.calls.specs.Content.{Content, Recovery, contentAt, recoveryAt}
 use Rattle.calls.specs.State.{put, putRecord}
 use Rattle.peel.specs.Peel.{View, gone, Keeps}
 use Rattle.guarantee.specs.Ranges.{count-raise, count-lower}
-use Rattle.guarantee.specs.Packets.{Whole, packetOf, part-fits, part-same, part-other}
+use Rattle.guarantee.specs.Packets.{packetOf}
+use Rattle.guarantee.specs.Lengths.{Clean, clean-size}
+use Rattle.guarantee.specs.Parts.{part-fits, part-same, part-other}
 use Rattle.guarantee.specs.View.{Limits, checkAt, Shaped, once, slotAt, Held, slot-present, Good, Missing}
 
 -- ---- a slot is filled
@@ -52,7 +55,11 @@ not-one m e = ne-eqb m 1 (λ q. let z = eqb-true m 0 e in omega arith)
 
 -- ---- a packet becomes present
 
-module _ {w : Window} {a u : ℕ} {s : Store} (G : Good w a u s) (i : ℕ) (c : Content) (hi : i < w .n) (hp : Whole (w .p) c) where
+module _ {w : Window} {a u : ℕ} {s : Store} (G : Good w a u s) (i : ℕ) (c : Content) (hi : i < w .n) (hp : Clean (w .p) (c .length) (c .payload)) where
+  -- it has P bytes
+  whole : length (c .payload) ≡ w .p
+  whole = clean-size (w .p) (c .length) (c .payload) hp
+
   -- the payload has its place in the store
   media-room : i * w .p + w .p ≤ length (s .media)
   media-room = let z = part-fits i (w .n) (w .p) hi in omega (arith, G .fits .media-long)
@@ -67,11 +74,16 @@ module _ {w : Window} {a u : ℕ} {s : Store} (G : Good w a u s) (i : ℕ) (c : 
 
   -- the position has the content
   content-same : contentAt w (put w s i c) i ≡ c
-  content-same = rw (getD-set-same (s .timestamps) i (c .timestamp) 0 (omega (arith, G .fits .timestamps-long)), part-same (s .media) i (w .p) (c .payload) media-room hp)
+  content-same =
+      rw (getD-set-same (s .timestamps) i (c .timestamp) 0 (omega (arith, G .fits .timestamps-long)), getD-set-same (s .lengths) i (c .length) 0 (omega (arith, G .fits .lengths-long)), part-same (s .media) i (w .p) (c .payload) media-room whole (c .length) hp)
+
+  -- the other lengths stay
+  length-other : (j : ℕ) → j ≢ i → lengthAt (put w s i c) j ≡ lengthAt s j
+  length-other j n = getD-set-other (s .lengths) i j (c .length) 0 n
 
   -- the other contents stay
   content-other : (j : ℕ) → j ≢ i → contentAt w (put w s i c) j ≡ contentAt w s j
-  content-other j n = rw (getD-set-other (s .timestamps) i j (c .timestamp) 0 n, part-other (s .media) i (w .p) (c .payload) media-room hp j n)
+  content-other j n = rw (getD-set-other (s .timestamps) i j (c .timestamp) 0 n, length-other j n, part-other (s .media) i (w .p) (c .payload) media-room whole (lengthAt s j) j n)
 
   -- its slot has the packet
   pub put-filled : slotAt w (put w s i c) i ≡ some (packetOf c)
@@ -83,30 +95,33 @@ module _ {w : Window} {a u : ℕ} {s : Store} (G : Good w a u s) (i : ℕ) (c : 
   put-others j n = rw (mark-other j n) (ap (λ x. cond (ltb j (w .n) && not (isMissing (s .marks) j)) (some (packetOf x)) none) (content-other j n))
 
   -- no record changes
-  pub put-held : (k : ℕ × ℕ) (v : Content) → Held w s k v → Held w (put w s i c) k v
+  pub put-held : (k : ℕ × ℕ) (v : Recovery) → Held w s k v → Held w (put w s i c) k v
   put-held k v h = record { at = h .at; below = h .below; used = h .used; names = h .names; carries = h .carries }
 
   -- and none comes in
-  pub put-was-held : (k : ℕ × ℕ) (v : Content) → Held w (put w s i c) k v → Held w s k v
+  pub put-was-held : (k : ℕ × ℕ) (v : Recovery) → Held w (put w s i c) k v → Held w s k v
   put-was-held k v h = record { at = h .at; below = h .below; used = h .used; names = h .names; carries = h .carries }
 
   -- the store is as long as before
   fits-put : Sized w (put w s i c)
   fits-put = record {
-    media-long = rw (length-paste (s .media) (i * w .p) (c .payload) (w .p) media-room (omega arith)) (G .fits .media-long);
+    media-long = rw (length-paste (s .media) (i * w .p) (c .payload) (w .p) media-room (omega (arith, whole))) (G .fits .media-long);
     timestamps-long = rw length-set (G .fits .timestamps-long);
+    lengths-long = rw length-set (G .fits .lengths-long);
     marks-long = rw length-set (G .fits .marks-long);
     parity-long = G .fits .parity-long;
     records-long = G .fits .records-long;
   }
 
   -- the store stays in order, with one packet more
-  pub put-good : isMissing (s .marks) i ≡ true → Good w (a + 1) u (put w s i c)
-  put-good empty = record {
+  pub put-good : isMissing (s .marks) i ≡ true → goodLength (w .p) (c .length) ≡ true → Good w (a + 1) u (put w s i c)
+  put-good empty good = record {
     fits = fits-put;
     mark = λ j h. marked j h (ℕ-discrete j i);
+    long = λ j h e. lengthy j h e (ℕ-discrete j i);
     use-mark = G .use-mark;
     shaped = G .shaped;
+    sized = G .sized;
     apart = G .apart;
     presents = let z = count-raise (isPresent (s .marks)) (isPresent (put w s i c .marks)) (w .n) i hi (not-one (getD (s .marks) i 0) empty)
         (rw mark-same) (λ j n. rw (mark-other j n)) in omega (arith, G .presents);
@@ -117,6 +132,10 @@ module _ {w : Window} {a u : ℕ} {s : Store} (G : Good w a u s) (i : ℕ) (c : 
       marked j h (yes q) = rw (q, mark-same) (omega arith)
       marked j h (no q) = rw (mark-other j q) (G .mark j h)
 
+      lengthy : (j : ℕ) → j < w .n → isPresent (set (s .marks) i 1) j ≡ true → Dec (j ≡ i) → goodLength (w .p) (lengthAt (put w s i c) j) ≡ true
+      lengthy j h e (yes q) = rw (q, getD-set-same (s .lengths) i (c .length) 0 (omega (arith, G .fits .lengths-long))) good
+      lengthy j h e (no q) = rw (length-other j q) (G .long j h (rw (mark-other j q) at e))
+
   -- of each check at most one member fewer is missing
   pub put-missing : Limits w → (m : ℕ) → Missing (suc m) w s → Missing m w (put w s i c)
   put-missing L m k = record {
@@ -126,7 +145,11 @@ module _ {w : Window} {a u : ℕ} {s : Store} (G : Good w a u s) (i : ℕ) (c : 
 
 -- ---- a record is written
 
-module _ {w : Window} {a u : ℕ} {s : Store} (G : Good w a u s) (r : ℕ) (v : Record) (payload : List ℕ) (hr : r < rows w) (hp : length payload ≡ w .p) where
+module _ {w : Window} {a u : ℕ} {s : Store} (G : Good w a u s) (r : ℕ) (v : Record) (payload : List ℕ) (hr : r < rows w) (hp : Clean (w .p) (v .«payload_length») payload) where
+  -- it has P bytes
+  long-enough : length payload ≡ w .p
+  long-enough = clean-size (w .p) (v .«payload_length») payload hp
+
   -- the payload of a record has its place in the store
   parity-room : r * w .p + w .p ≤ length (s .parity)
   parity-room = let z = part-fits r (rows w) (w .p) hr in omega (arith, G .fits .parity-long)
@@ -141,8 +164,9 @@ module _ {w : Window} {a u : ℕ} {s : Store} (G : Good w a u s) (r : ℕ) (v : 
   record-same = getD-set-same (s .records) r v blank (omega (arith, G .fits .records-long))
 
   -- and holds the recovery
-  pub recovery-same : recoveryAt w (putRecord w s r v payload) r ≡ record { timestamp = v .«timestamp_recovery»; payload = payload }
-  recovery-same = rw (record-same, part-same (s .parity) r (w .p) payload parity-room hp)
+  pub recovery-same : recoveryAt w (putRecord w s r v payload) r
+      ≡ record { content = record { timestamp = v .«timestamp_recovery»; length = v .«length_recovery»; payload = payload }; size = v .«payload_length» }
+  recovery-same = rw (record-same, part-same (s .parity) r (w .p) payload parity-room long-enough (v .«payload_length») hp)
 
   -- the other records stay
   pub record-other : (q : ℕ) → q ≢ r → recordAt (putRecord w s r v payload) q ≡ recordAt s q
@@ -150,10 +174,10 @@ module _ {w : Window} {a u : ℕ} {s : Store} (G : Good w a u s) (r : ℕ) (v : 
 
   -- and their recoveries
   recovery-other : (q : ℕ) → q ≢ r → recoveryAt w (putRecord w s r v payload) q ≡ recoveryAt w s q
-  recovery-other q n = rw (record-other q n, part-other (s .parity) r (w .p) payload parity-room hp q n)
+  recovery-other q n = rw (record-other q n, part-other (s .parity) r (w .p) payload parity-room long-enough (recordAt s q .«payload_length») q n)
 
   -- a check in another record stays in hand
-  pub record-held : (k : ℕ × ℕ) (x : Content) (h : Held w s k x) → h .at ≢ r → Held w (putRecord w s r v payload) k x
+  pub record-held : (k : ℕ × ℕ) (x : Recovery) (h : Held w s k x) → h .at ≢ r → Held w (putRecord w s r v payload) k x
   record-held k x h n = record {
     at = h .at;
     below = h .below;
@@ -163,7 +187,7 @@ module _ {w : Window} {a u : ℕ} {s : Store} (G : Good w a u s) (r : ℕ) (v : 
   }
 
   -- and was in hand
-  pub record-was-held : (k : ℕ × ℕ) (x : Content) (h : Held w (putRecord w s r v payload) k x) → h .at ≢ r → Held w s k x
+  pub record-was-held : (k : ℕ × ℕ) (x : Recovery) (h : Held w (putRecord w s r v payload) k x) → h .at ≢ r → Held w s k x
   record-was-held k x h n = record {
     at = h .at;
     below = h .below;
@@ -177,8 +201,9 @@ module _ {w : Window} {a u : ℕ} {s : Store} (G : Good w a u s) (r : ℕ) (v : 
   fits-record = record {
     media-long = G .fits .media-long;
     timestamps-long = G .fits .timestamps-long;
+    lengths-long = G .fits .lengths-long;
     marks-long = G .fits .marks-long;
-    parity-long = rw (length-paste (s .parity) (r * w .p) payload (w .p) parity-room (omega arith)) (G .fits .parity-long);
+    parity-long = rw (length-paste (s .parity) (r * w .p) payload (w .p) parity-room (omega (arith, long-enough))) (G .fits .parity-long);
     records-long = rw length-set (G .fits .records-long);
   }
 
@@ -190,15 +215,18 @@ module _ {w : Window} {a u : ℕ} {s : Store} (G : Good w a u s) (r : ℕ) (v : 
       go (yes z) = rw (z, record-same) new
       go (no z) = rw (record-other q z) (old q h z)
 
-  -- the store stays in order, where the record written is not in use or of good shape and of a group that no other holds
-  pub record-good : (c : ℕ) → v .«in_use» ≤ 1 → (usedBy w v ≡ true → Shaped w (v .stream, v .snbase))
+  -- the store stays in order, where the record written is not in use, or of good shape, with a payload of good length, and of a group that no other
+  -- holds
+  pub record-good : (c : ℕ) → v .«in_use» ≤ 1 → (usedBy w v ≡ true → Shaped w (v .stream, v .snbase)) → (usedBy w v ≡ true → goodLength (w .p) (v .«payload_length») ≡ true)
       → (usedBy w v ≡ true → (q : ℕ) → q < rows w → inUse w s q ≡ true → q ≢ r → checkAt s q ≡ (v .stream, v .snbase) → ⊥)
       → c ≡ count (inUse w (putRecord w s r v payload)) (upTo (rows w)) → Good w a c (putRecord w s r v payload)
-  record-good c small fine alone counted = record {
+  record-good c small fine good alone counted = record {
     fits = fits-record;
     mark = G .mark;
+    long = G .long;
     use-mark = of-each (λ x. x .«in_use» ≤ 1) small (λ q h n. G .use-mark q h);
     shaped = of-each (λ x. usedBy w x ≡ true → Shaped w (x .stream, x .snbase)) fine (λ q h n. G .shaped q h);
+    sized = of-each (λ x. usedBy w x ≡ true → goodLength (w .p) (x .«payload_length») ≡ true) good (λ q h n. G .sized q h);
     apart = λ q p hq hp eq ep. unlike q p hq hp eq ep (ℕ-discrete q r) (ℕ-discrete p r);
     presents = G .presents;
     in-use = counted;

@@ -13,7 +13,7 @@ use Rattle.window.specs.Limits.{rows}
 use Rattle.window.specs.Store.{Store, recordAt}
 use Rattle.window.specs.Group.{position, group}
 use Rattle.window.specs.Order.{inUse}
-use Rattle.calls.specs.Content.{Content, xorContent, xorContents, contentAt, recoveryAt}
+use Rattle.calls.specs.Content.{Content, xorContent, xorContents, contentAt, Recovery, recoveryAt, fits}
 use Rattle.calls.specs.Datagram.{Outer}
 use Rattle.calls.specs.Accept.{contentOf, recoveryOf}
 use Rattle.calls.specs.Call.{Written, over, readOut, wroteParity}
@@ -23,19 +23,23 @@ use Rattle.guarantee.specs.Start.{Holds}
 -- ---- "what is rebuilt is the exclusive-or the Code prescribes, over what is held, with the number of the one missing"
 
 -- a parity packet that an offer o to a store may rebuild by, with its stream, SNBase and recovery: one in hand, or the one offered
-pub data Usable (w : Window) (o : Offer) (s : Store) : (stream snbase : ℕ) → Content → Type 0 where
+pub data Usable (w : Window) (o : Offer) (s : Store) : (stream snbase : ℕ) → Recovery → Type 0 where
   in-hand : (r : ℕ) → r < rows w → inUse w s r ≡ true → Usable w o s (recordAt s r .stream) (recordAt s r .snbase) (recoveryAt w s r)
-  column-offered : o .port ≡ columnPort → Usable w o s column (snbase (o .datagram)) (recoveryOf (o .datagram))
-  row-offered : o .port ≡ rowPort → Usable w o s row (snbase (o .datagram)) (recoveryOf (o .datagram))
+  column-offered : o .port ≡ columnPort → Usable w o s column (snbase (o .datagram)) (recoveryOf (w .p) (o .datagram))
+  row-offered : o .port ≡ rowPort → Usable w o s row (snbase (o .datagram)) (recoveryOf (w .p) (o .datagram))
+
+-- the exclusive-or of what a parity packet carries and of the others of its group
+abbrev pub rebuiltBy : Window → Recovery → (others : ℕ → Content) → List ℕ → Content
+rebuiltBy w recovery others g = xorContent (recovery .content) (xorContents (w .p) others g)
 
 -- what may stand at a position after an offer o to a store: what stood there, the media packet offered, or the exclusive-or of such a
--- parity packet and of the others of its group, each of which may stand at its position before that
+-- parity packet and of the others of its group, each of which may stand at its position before that, where it fits and so is not spoilt
 pub data Due (w : Window) (o : Offer) (s : Store) : ℕ → Content → Type 0 where
   stood : (i : ℕ) → i < w .n → markAt s i ≡ 1 → Due w o s i (contentAt w s i)
-  arrived : o .port ≡ mediaPort → Due w o s (position w (sequenceNumber (o .datagram))) (contentOf (o .datagram))
-  rebuilt : (stream snbase : ℕ) (recovery : Content) (others : ℕ → Content) (i : ℕ) (before after : List ℕ) → Usable w o s stream snbase recovery
+  arrived : o .port ≡ mediaPort → Due w o s (position w (sequenceNumber (o .datagram))) (contentOf (w .p) (o .datagram))
+  rebuilt : (stream snbase : ℕ) (recovery : Recovery) (others : ℕ → Content) (i : ℕ) (before after : List ℕ) → Usable w o s stream snbase recovery
       → group w stream snbase ≡ before ++ (i ∷ after) → ((j : ℕ) → List·Memᴰ j (before ++ after) → Due w o s j (others j))
-      → Due w o s i (xorContent recovery (xorContents (w .p) others (before ++ after)))
+      → fits w recovery (rebuiltBy w recovery others (before ++ after)) ≡ true → Due w o s i (rebuiltBy w recovery others (before ++ after))
 
 -- every packet that is present after an offer, accepted or refused, unaltered or not, is due
 abbrev pub ClaimDue : Type 0
@@ -71,7 +75,7 @@ ClaimRead =
     → w .ssrc < 2 ^ 32
     → number < 2 ^ 16
     → Holds w t s
-    → readOut w number s out .answer ≡ Done count
+    → readOut w number s out .answer ≡ Done count 0
     → Wrote (UnalteredMedia w t) out (readOut w number s out)
 
 -- writing the parity of a group over it writes an unaltered parity packet
@@ -83,5 +87,5 @@ ClaimWritten =
     → o .timestamp < 2 ^ 32
     → o .ssrc < 2 ^ 32
     → Holds w t s
-    → wroteParity stream w snbase o s out .answer ≡ Done count
+    → wroteParity stream w snbase o s out .answer ≡ Done count 0
     → Wrote (UnalteredParity w t stream) out (wroteParity stream w snbase o s out)

@@ -1,4 +1,5 @@
--- Demand 3 (document 00) in the words of document 01, "The words of demand 3", and over bytes: the statement alone. Theorem.antt proves it.
+-- Demand 3 (document 00) in the words of document 01, "The words of demand 3", read as 02, request 1, has it, and over bytes: the statement
+-- alone. Theorem.antt proves it.
 use mathlib.Core.Path.{_≡_}
 use mathlib.Core.Logic.{_↔_, _≢_, _⊎_}
 use mathlib.Core.Bool.{Bool, true, false, cond, _&&_, _||_}
@@ -6,17 +7,21 @@ use mathlib.Core.List.{List, [], _∷_, _++_, map, List·Memᴰ}
 use Prim.Native.Nat.{ℕ, _^_, _<_, _≤_}
 use lib.ListN.{length, getD}
 use lib.Dec.{eqb}
+use Rattle.answer.specs.declared.Answer.{Answer}
 use Rattle.answer.specs.declared.Answer.the-variants.{Done}
+use Rattle.answer.specs.Number.{spoiltOf}
+use Rattle.xor.specs.Xor.{padded}
 use Rattle.sequence.specs.Lists.{count}
 use Rattle.sequence.specs.Wrap.{numberAt}
 use Rattle.rtp.specs.Rtp.{sequenceNumber}
 use Rattle.rtp.specs.Fec.{column, row, snbase}
 use Rattle.rtp.specs.Faults.{noRow}
+use Rattle.rtp.specs.Length.{goodLength}
 use Rattle.window.specs.declared.Window.{Window}
 use Rattle.window.specs.Limits.{width, parityRoom}
 use Rattle.window.specs.Store.{Store}
 use Rattle.window.specs.Group.{group, inside}
-use Rattle.calls.specs.Content.{Content, xorContents, contentAt}
+use Rattle.calls.specs.Content.{Content, xorContents, contentAt, Recovery, longest}
 use Rattle.calls.specs.Datagram.{mediaPacket, Outer, parityPacket}
 use Rattle.calls.specs.Call.{Outcome, asked, opened, offeredMedia, offeredColumn, offeredRow}
 
@@ -46,17 +51,35 @@ unfoldable pub run : Outcome → List Offer → Outcome
 run x [] = x
 run x (o ∷ offers) = run (offered o (x .window) (x .store)) offers
 
+-- what each of them is answered with
+unfoldable pub answers : Outcome → List Offer → List Answer
+answers x [] = []
+answers x (o ∷ offers) = offered o (x .window) (x .store) .answer ∷ answers (offered o (x .window) (x .store)) offers
+
 -- ---- "each an unaltered packet of one stretch as document 01 defines it, on its own port"
 
--- a stretch: media packets, one for each position, by their timestamp and payload; a packet's number is its position's
-abbrev pub Stretch : Type 0
-Stretch = ℕ → Content
+-- a media packet as it is sent, but for its number: a timestamp, and a payload of its own length
+pub record Sent : Type 0 where
+  pub timestamp : ℕ
+  pub payload : List ℕ
 
--- "a window that the stretch fills": there are n of them, each with any timestamp and P payload bytes
+-- a stretch: media packets, one for each position; a packet's number is its position's
+abbrev pub Stretch : Type 0
+Stretch = ℕ → Sent
+
+-- "a window that the stretch fills": there are n of them, each with any timestamp and one or more whole units of payload, up to P bytes
 pub record Fills (w : Window) (t : Stretch) : Type 0 where
   pub timestamp-fits : (i : ℕ) → i < w .n → t i .timestamp < 2 ^ 32
-  pub size : (i : ℕ) → i < w .n → length (t i .payload) ≡ w .p
+  pub size : (i : ℕ) → i < w .n → goodLength (w .p) (length (t i .payload)) ≡ true
   pub bytes : (i : ℕ) → i < w .n → (b : ℕ) → List·Memᴰ b (t i .payload) → b < 256
+
+-- the content sent at a position: the length of its payload, and that with zeros up to P bytes
+abbrev pub contentSent : Window → Stretch → ℕ → Content
+contentSent w t i = record { timestamp = t i .timestamp; length = length (t i .payload); payload = padded (w .p) (t i .payload) }
+
+-- the recovery of a group over the stretch: the exclusive-or of the contents sent, as long as the longest of their payloads
+abbrev pub recoverySent : Window → Stretch → (group : List ℕ) → Recovery
+recoverySent w t group = record { content = xorContents (w .p) (contentSent w t) group; size = longest (map (λ i. length (t i .payload)) group) }
 
 -- an unaltered media packet: the datagram of one of them, with its position's number; any SSRC will do
 pub record UnalteredMedia (w : Window) (t : Stretch) (datagram : List ℕ) : Type 0 where
@@ -64,7 +87,7 @@ pub record UnalteredMedia (w : Window) (t : Stretch) (datagram : List ℕ) : Typ
   pub ssrc : ℕ
   pub in-window : place < w .n
   pub ssrc-fits : ssrc < 2 ^ 32
-  pub is : datagram ≡ mediaPacket (numberAt width (w .base) place) ssrc (t place)
+  pub is : datagram ≡ mediaPacket (numberAt width (w .base) place) ssrc (contentSent w t place)
 
 -- an unaltered parity packet: the datagram of a group of the stream, recovery taken over the stretch (a row only where L ≥ 4);
 -- "each group lies wholly inside the window"; any RTP sequence number, timestamp and SSRC will do
@@ -77,7 +100,7 @@ pub record UnalteredParity (w : Window) (t : Stretch) (stream : ℕ) (datagram :
   pub ssrc-fits : outer .ssrc < 2 ^ 32
   pub permitted : noRow stream (w .l) ≡ false
   pub in-window : inside w stream snbase ≡ true
-  pub is : datagram ≡ parityPacket outer stream (w .l) (w .d) (w .p) snbase (xorContents (w .p) t (group w stream snbase))
+  pub is : datagram ≡ parityPacket outer stream (w .l) (w .d) snbase (recoverySent w t (group w stream snbase))
 
 -- an unaltered packet on its own port
 abbrev pub UnalteredOn : Window → Stretch → Port → List ℕ → Type 0
@@ -146,7 +169,7 @@ distinctGroups names = different (groupsOf names)
 pub record Given (w : Window) (lent : Store) (t : Stretch) (offers : List Offer) : Type 0 where
   pub base-fits : w .base < 2 ^ 16
   pub fills : Fills w t
-  pub fresh : opened w lent .answer ≡ Done 0
+  pub fresh : opened w lent .answer ≡ Done 0 0
   pub unaltered : (o : Offer) → List·Memᴰ o offers → Unaltered w t o
   pub few-groups : length (distinctGroups (namesOf offers)) ≤ parityRoom w
 
@@ -162,10 +185,12 @@ pub record Hidden (w : Window) (received : List Name) (S : ℕ → Bool) : Type 
   pub unreceived : (i : ℕ) → S i ≡ true → ¬ Received received (mediaName (numberAt width (w .base) i))
   pub never-one : (stream snbase : ℕ) → Received received (parityName stream snbase) → count S (group w stream snbase) ≢ 1
 
--- "every packet present equals the one sent in number, timestamp and payload; a packet is missing exactly when it belongs to such a set"
-pub record Demand3 (w : Window) (t : Stretch) (received : List Name) (s : Store) : Type 0 where
+-- "every packet present equals the one sent in number, timestamp and payload", this at its true length; "a packet is missing exactly when it
+-- belongs to such a set"; and "for unaltered traffic that count is zero": no answer counts a parity packet as spoilt (02, request 1)
+pub record Demand3 (w : Window) (t : Stretch) (received : List Name) (answered : List Answer) (s : Store) : Type 0 where
   pub mark : (i : ℕ) → i < w .n → (markAt s i ≡ 0) ⊎ (markAt s i ≡ 1)
-  pub present : (i : ℕ) → i < w .n → markAt s i ≡ 1 → contentAt w s i ≡ t i
+  pub present : (i : ℕ) → i < w .n → markAt s i ≡ 1 → contentAt w s i ≡ contentSent w t i
+  pub unspoilt : (a : Answer) → List·Memᴰ a answered → spoiltOf a ≡ 0
   pub missing : (i : ℕ) → i < w .n → (markAt s i ≡ 0) ↔ ((S : ℕ → Bool) × Hidden w received S × (S i ≡ true))
 
 -- ---- the claims, proved in Theorem.antt: demand3 and demand3-same. Start.antt has them from any store in order
@@ -175,7 +200,7 @@ abbrev pub Claim : Type 0
 Claim =
     (base ssrc l d p n k : ℕ) (lent : Store) (t : Stretch) (offers : List Offer)
     → Given (asked base ssrc l d p n k) lent t offers
-    → Demand3 (asked base ssrc l d p n k) t (namesOf offers) (run (opened (asked base ssrc l d p n k) lent) offers .store)
+    → Demand3 (asked base ssrc l d p n k) t (namesOf offers) (answers (opened (asked base ssrc l d p n k) lent) offers) (run (opened (asked base ssrc l d p n k) lent) offers .store)
 
 -- "two such lists of the same packets, in whatever orders and with whatever repeats"
 abbrev pub SamePackets : List Name → List Name → Type 0

@@ -1,6 +1,6 @@
 -- The invariant of a run: the store is in order, and the groups of its parity in hand are among those that there is room for. Every
 -- faultless offer keeps it, and is a run of the theory.
-use mathlib.Core.Path.{_≡_, refl, sym, _∙_, subst}
+use mathlib.Core.Path.{_≡_, refl, sym, ap, _∙_, subst}
 use mathlib.Core.Logic.{_⊎_, inl, inr, ⊎-elim}
 use mathlib.Core.Bool.{Bool, true, false, _&&_, true≢false}
 use mathlib.Core.List.{List, [], _∷_, List·Memᴰ, List·Memᴰ·eq-of-singleton, Memᴰ·cast}
@@ -10,6 +10,7 @@ use lib.ListN.{length}
 use lib.Dec.{eqb}
 use borrow.Author.Tests.{eqb-true}
 use Rattle.answer.specs.First.{None}
+use Rattle.answer.specs.Number.{spoiltOf}
 use Rattle.sequence.specs.Lists.{upTo, any, any-false}
 use Rattle.sequence.specs.Lists.{and-split as both}
 use Rattle.rtp.specs.Rtp.{sequenceNumber}
@@ -20,11 +21,11 @@ use Rattle.window.specs.Limits.{width, rows, parityRoom, setUpTests}
 use Rattle.window.specs.Store.{Store, recordAt}
 use Rattle.window.specs.Group.{position, inside, isMissing}
 use Rattle.window.specs.Order.{inUse}
-use Rattle.calls.specs.Content.{Content, recoveryAt}
+use Rattle.calls.specs.Content.{Recovery, recoveryAt}
 use Rattle.calls.specs.State.{recount}
 use Rattle.calls.specs.Call.{Outcome, holds, offeredMedia, offeredParity}
 use Rattle.calls.specs.Passed.{media-passed, parity-passed, media-passes, parity-passes}
-use Rattle.peel.specs.Peel.{Offer, check, Here, pass, Runs, done, took, sound-has, sound-runs}
+use Rattle.peel.specs.Peel.{Offer, check, Here, pass, Runs, done, took, Spoiling, sound-has, sound-runs}
 use Rattle.guarantee.specs.Ranges.{decide, any-some, upTo-lt, Out, take-out, pigeon}
 use Rattle.guarantee.specs.Packets.{Packet}
 use Rattle.guarantee.specs.View.{code, checkAt, Held, view, miss-mark}
@@ -45,21 +46,23 @@ pub record Fine (w : Window) (D : List (ℕ × ℕ)) (v : Window) (s : Store) : 
   pub order : Ordered w present used s
   pub keyed : (r : ℕ) → r < rows w → inUse w s r ≡ true → List·Memᴰ (checkAt s r) D
 
--- offers keep it, and are a run of the theory
-pub record Goes (w : Window) (D : List (ℕ × ℕ)) (os : List (Offer (ℕ × ℕ) Content Packet)) (s : Store) (x : Outcome) : Type 1 where
+-- a call for these offers keeps it, and is a run of the theory; where its answer counts a check as spoilt, one was found so
+pub record Goes (w : Window) (D : List (ℕ × ℕ)) (os : List (Offer (ℕ × ℕ) Recovery Packet)) (s : Store) (x : Outcome) : Type 1 where
   pub fine : Fine w D (x .window) (x .store)
   pub runs : Runs (code w) (view w s) os (view w (x .store))
+  pub clear : (spoiltOf (x .answer) ≡ 0) ⊎ Spoiling (code w) (view w s) os
 
-module _ {D : List (ℕ × ℕ)} (p : Offer (ℕ × ℕ) Content Packet) (key : (k : ℕ × ℕ) (c : Content) → p ≡ check k c → List·Memᴰ k D) where
+module _ {D : List (ℕ × ℕ)} (p : Offer (ℕ × ℕ) Recovery Packet) (key : (k : ℕ × ℕ) (c : Recovery) → p ≡ check k c → List·Memᴰ k D) where
   -- an offer that tells nothing new is passed over
-  passed : {w : Window} {s : Store} {x : Outcome} → Fine w D (x .window) s → x .store ≡ s → Here (code w) p (view w s) → Goes w D (p ∷ []) s x
-  passed {w} {s} f e h = rw e (record { fine = f; runs = took (pass (code w) h) done })
+  passed : {w : Window} {s : Store} {x : Outcome} → Fine w D (x .window) s → x .store ≡ s → spoiltOf (x .answer) ≡ 0 → Here (code w) p (view w s) → Goes w D (p ∷ []) s x
+  passed {w} {s} f e z h = rw e (record { fine = f; runs = took (pass (code w) h) done; clear = inl z })
 
   -- an accepted offer keeps the invariant: parity in hand was in hand, or is the one offered
   accepted : {w v : Window} {s : Store} → Fine w D v s → {a more : ℕ} {x : Outcome} → Settled w a s p more x → Goes w D (p ∷ []) s x
   accepted {w} {s = s} f {x = x} t = record {
     fine = record { present = t .present; used = t .used; window = t .window; order = t .order; keyed = keyed-on };
     runs = t .runs;
+    clear = ⊎-elim (λ z. inl (ap spoiltOf (t .answer) ∙ z)) inr (t .clear);
   }
     where
       keyed-on : (r : ℕ) → r < rows w → inUse w (x .store) r ≡ true → List·Memᴰ (checkAt (x .store) r) D
@@ -83,17 +86,17 @@ module _ {w : Window} (O : Opened w) {D : List (ℕ × ℕ)} (enough : length D 
       x : Window
       x = recount w (f .present) (f .used)
 
-      key : (k : ℕ × ℕ) (c : Content) → mediaSeen w g ≡ check k c → List·Memᴰ k D
+      key : (k : ℕ × ℕ) (c : Recovery) → mediaSeen w g ≡ check k c → List·Memᴰ k D
       key k c e = absurd (let z : _≡_ {A = ℕ} 0 1 = cc in omega arith)
 
       go : (isMissing (s .marks) i ≡ true) ⊎ (isMissing (s .marks) i ≡ false) → Goes w D (mediaSeen w g ∷ []) s (offeredMedia x g s)
       go (inl e) = accepted (mediaSeen w g) key f (media-accepted w (O .based) (f .present) (f .used) s g (media-passes x g s (stands w (f .present) (f .used) s (O .faultless) (f .order)) faultless h e))
-      go (inr e) = rw (media-kept x g s (λ z. true≢false (sym (media-passed x g s z .new) ∙ e))) (passed (mediaSeen w g) key (refresh f) refl (miss-mark w s i h ∙ e))
+      go (inr e) = rw (media-kept x g s (λ z. true≢false (sym (media-passed x g s z .new) ∙ e))) (passed (mediaSeen w g) key (refresh f) refl refl (miss-mark w s i h ∙ e))
 
   -- a parity datagram without a fault, of a group of the window that is in D: there is room for it
   pub fine-parity : {v : Window} {s : Store} (stream : ℕ) → stream ≤ 1 → (g : List ℕ) → None (parityTests stream (w .l) (w .d) (w .p) g) → inside w stream (snbase g) ≡ true
-      → List·Memᴰ (stream, snbase g) D → Fine w D v s → Goes w D (paritySeen stream g ∷ []) s (offeredParity stream v g s)
-  fine-parity {v} {s} stream hs g faultless h m f = subst (λ z. Goes w D (paritySeen stream g ∷ []) s (offeredParity stream z g s)) (sym (f .window)) (go (decide (any in-hand (upTo (rows w)))))
+      → List·Memᴰ (stream, snbase g) D → Fine w D v s → Goes w D (paritySeen w stream g ∷ []) s (offeredParity stream v g s)
+  fine-parity {v} {s} stream hs g faultless h m f = subst (λ z. Goes w D (paritySeen w stream g ∷ []) s (offeredParity stream z g s)) (sym (f .window)) (go (decide (any in-hand (upTo (rows w)))))
     where
       x : Window
       x = recount w (f .present) (f .used)
@@ -101,7 +104,7 @@ module _ {w : Window} (O : Opened w) {D : List (ℕ × ℕ)} (enough : length D 
       in-hand : ℕ → Bool
       in-hand = holds w s stream (snbase g)
 
-      key : (k : ℕ × ℕ) (c : Content) → paritySeen stream g ≡ check k c → List·Memᴰ k D
+      key : (k : ℕ × ℕ) (c : Recovery) → paritySeen w stream g ≡ check k c → List·Memᴰ k D
       key k c e = let z : k ≡ (stream, snbase g) = cc in Memᴰ·cast z m
 
       -- not in hand: there is room
@@ -114,7 +117,7 @@ module _ {w : Window} (O : Opened w) {D : List (ℕ × ℕ)} (enough : length D 
           omega (arith, f .order .good .in-use, o .shorter)
 
       -- in hand: the record that holds it
-      holder : any in-hand (upTo (rows w)) ≡ true → (c : Content) × Held w s (stream, snbase g) c
+      holder : any in-hand (upTo (rows w)) ≡ true → (c : Recovery) × Held w s (stream, snbase g) c
       holder e =
           let r = any-some in-hand (upTo (rows w)) e in
           let v = recordAt s (r .0) in
@@ -124,15 +127,15 @@ module _ {w : Window} (O : Opened w) {D : List (ℕ × ℕ)} (enough : length D 
           let e = eqb-true (v .snbase) (snbase g) (c .1) in
           (recoveryAt w s (r .0), record { at = r .0; below = upTo-lt (rows w) (r .0) (r .1); used = b .0; names = λ j. (d j, e j); carries = refl })
 
-      go : (any in-hand (upTo (rows w)) ≡ true) ⊎ (any in-hand (upTo (rows w)) ≡ false) → Goes w D (paritySeen stream g ∷ []) s (offeredParity stream x g s)
-      go (inl e) = rw (parity-kept stream x g s (λ z. true≢false (sym e ∙ parity-passed x stream g s z .new))) (passed (paritySeen stream g) key (refresh f) refl (inl (holder e)))
-      go (inr e) = accepted (paritySeen stream g) key f (parity-accepted w (O .based) (f .present) (f .used) s g stream hs
+      go : (any in-hand (upTo (rows w)) ≡ true) ⊎ (any in-hand (upTo (rows w)) ≡ false) → Goes w D (paritySeen w stream g ∷ []) s (offeredParity stream x g s)
+      go (inl e) = rw (parity-kept stream x g s (λ z. true≢false (sym e ∙ parity-passed x stream g s z .new))) (passed (paritySeen w stream g) key (refresh f) refl refl (inl (holder e)))
+      go (inr e) = accepted (paritySeen w stream g) key f (parity-accepted w (O .based) (f .present) (f .used) s g stream hs
           (parity-passes x g s (stands w (f .present) (f .used) s (O .faultless) (f .order)) stream faultless h e (free e)))
 
 -- a parity datagram of a group that does not lie in the window is refused
 pub refused-parity : {w : Window} {D : List (ℕ × ℕ)} {v : Window} {s : Store} (stream : ℕ) (g : List ℕ) → inside w stream (snbase g) ≡ false → Fine w D v s → Goes w D [] s (offeredParity stream v g s)
 refused-parity {w} {D} {v} {s} stream g e f = subst (λ z. Goes w D [] s (offeredParity stream z g s)) (sym (f .window))
-    (rw (parity-kept stream x g s (λ z. true≢false (sym (parity-passed x stream g s z .in-window) ∙ e))) (record { fine = refresh f; runs = done }))
+    (rw (parity-kept stream x g s (λ z. true≢false (sym (parity-passed x stream g s z .in-window) ∙ e))) (record { fine = refresh f; runs = done; clear = inl refl }))
   where
     x : Window
     x = recount w (f .present) (f .used)

@@ -6,8 +6,11 @@ pub mod Zero
 pub mod Arrangement
 pub mod Bench
 pub mod Night
+pub mod Spoilt
 pub mod Ranges
 pub mod Packets
+pub mod Lengths
+pub mod Parts
 pub mod View
 pub mod Changes
 pub mod Moves

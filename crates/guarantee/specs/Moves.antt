@@ -4,25 +4,28 @@ use mathlib.Core.Logic.{_≢_, _⊎_, inl, inr, ⊎-elim}
 use mathlib.Core.Bool.{Bool, true, false, not, true≢false}
 use mathlib.Core.Option.{some}
 use mathlib.Core.List.{List, [], _∷_, _++_, head-eq-of-cons-eq, List·Memᴰ, List·Memᴰ·head, List·Memᴰ·tail, Memᴰ·append-left, Memᴰ·append-right, List·Memᴰ·append-cases}
-use Prim.Native.Nat.{ℕ, suc, _-_, _<_}
+use Prim.Native.Nat.{ℕ, suc, _+_, _-_, _<_}
 use native.Mathlib.Decide.{ℕ-discrete}
 use native.Mathlib.Omega.{arith}
 use lib.ListN.{length, replicate, length-replicate}
+use lib.Seq.{take-all}
 use Rattle.sequence.specs.Lists.{upTo, keep, count, headOr}
+use Rattle.rtp.specs.Length.{goodLength}
 use Rattle.window.specs.declared.Window.{Window}
 use Rattle.window.specs.Record.{blank}
 use Rattle.window.specs.Limits.{rows}
 use Rattle.window.specs.Store.{Store, recordAt}
 use Rattle.window.specs.Group.{isMissing, missing, present}
 use Rattle.window.specs.Order.{inUse, missingAt}
-use Rattle.calls.specs.Content.{Content, xorContents, contentAt, contentOver}
+use Rattle.calls.specs.Content.{Content, Recovery, xorContents, contentAt, recoveryAt, contentOver, fits}
 use Rattle.calls.specs.State.{put, putRecord}
 use Rattle.peel.specs.Group.{total, None, One, one-count, none-count, none-insert}
 use Rattle.peel.specs.Peel.{gone, miss, Keeps, Full, Rebuild, Spoilt, Step}
 use Rattle.guarantee.specs.Ranges.{count-raise, count-keep}
-use Rattle.guarantee.specs.Packets.{Whole, xored, zeros, packetOf, packet-xor, packet-total, whole-xor, whole-xors}
-use Rattle.guarantee.specs.View.{groupOf, code, checkAt, member-lt, packetAt, slotAt, Held, view, slot-present, slot-missing, miss-count, Good, content-whole}
-use Rattle.guarantee.specs.Changes.{fill-keeps, fill-new, put-filled, put-others, put-held, put-was-held, record-slot, record-held, record-was-held, record-same, record-other, record-good}
+use Rattle.guarantee.specs.Packets.{Whole, xored, zeros, packetOf, content-from, packet-xor, packet-total, whole-xor, whole-xors}
+use Rattle.guarantee.specs.Lengths.{Clean, fits-good, fits-clean}
+use Rattle.guarantee.specs.View.{Limits, groupOf, code, checkAt, member-lt, packetAt, slotAt, Held, view, slot-present, slot-missing, miss-count, Good, Missing, content-whole}
+use Rattle.guarantee.specs.Changes.{fill-keeps, fill-new, put-filled, put-others, put-held, put-was-held, put-good, put-missing, record-slot, record-held, record-was-held, record-same, record-other, record-good}
 
 -- ---- the one missing member of a group
 
@@ -72,7 +75,7 @@ pub record Solved (w : Window) (s : Store) (g : List ℕ) (v : Content) (i : ℕ
   pub size : Whole (w .p) (contentOver w s g v)
   pub adds : packetOf (contentOver w s g v) ≡ xored (packetOf v) (total xored zeros (packetAt w s) (left ++ right))
 
-module _ {w : Window} {a u : ℕ} {s : Store} (G : Good w a u s) where
+module _ (w : Window) (s : Store) where
   -- the parts of the group around the one missing
   solved-at : (g : List ℕ) → ((j : ℕ) → List·Memᴰ j g → j < w .n) → (v : Content) → Whole (w .p) v → (o : One (isMissing (s .marks)) g) → Solved w s g v (o .at)
   solved-at g within v hp o = record {
@@ -83,7 +86,7 @@ module _ {w : Window} {a u : ℕ} {s : Store} (G : Good w a u s) where
     empty = o .marked;
     rest = λ j m. slot-present w s j (inner j m) (o .rest j m);
     size = whole-xor v held hp long;
-    adds = packet-xor v held hp long ∙ ap (xored (packetOf v)) (packet-total (w .p) (contentAt w s) (present (s .marks) g) sizes ∙ ap (total xored zeros (packetAt w s)) left-over);
+    adds = packet-xor v held hp long ∙ ap (xored (packetOf v)) (packet-total (w .p) (contentAt w s) (content-whole w s) (present (s .marks) g) ∙ ap (total xored zeros (packetAt w s)) left-over);
   }
     where
       held : Content
@@ -98,11 +101,8 @@ module _ {w : Window} {a u : ℕ} {s : Store} (G : Good w a u s) where
       inner : (j : ℕ) → List·Memᴰ j (o .left ++ o .right) → j < w .n
       inner j m = within j (inside j (mem-insert j (o .left) (o .at) (o .right) m))
 
-      sizes : (j : ℕ) → List·Memᴰ j (present (s .marks) g) → Whole (w .p) (contentAt w s j)
-      sizes j m = content-whole G j (inner j (subst (List·Memᴰ j) left-over m))
-
       long : Whole (w .p) held
-      long = whole-xors (w .p) (contentAt w s) (present (s .marks) g) sizes
+      long = whole-xors (w .p) (contentAt w s) (content-whole w s) (present (s .marks) g)
 
   -- a group with one member missing is solved
   pub solved : (g : List ℕ) → ((j : ℕ) → List·Memᴰ j g → j < w .n) → (v : Content) → Whole (w .p) v → (i : ℕ) → missing (s .marks) g ≡ i ∷ [] → Solved w s g v i
@@ -112,47 +112,71 @@ module _ {w : Window} {a u : ℕ} {s : Store} (G : Good w a u s) where
       let z : missing (s .marks) g ≡ o .at ∷ [] = ap (keep f) (o .is) ∙ keep-one f (o .left) (o .at) (o .right) (o .marked) (o .rest) in
       subst (Solved w s g v) (head-eq-of-cons-eq (sym z ∙ e)) (solved-at g within v hp o)
 
-  module _ (k : ℕ × ℕ) (v : Content) (i : ℕ) (q : Solved w s (groupOf w k) v i) where
-    -- the packet rebuilt
-    abbrev content : Content
-    content = contentOver w s (groupOf w k) v
+-- ---- rebuilding
 
+module _ {w : Window} {s : Store} (k : ℕ × ℕ) (v : Recovery) (i : ℕ) (q : Solved w s (groupOf w k) (v .content) i) where
+  -- the packet rebuilt
+  abbrev content : Content
+  content = contentOver w s (groupOf w k) (v .content)
+
+  -- it is a rebuild by check k, which is one of the checks H
+  rebuilds : (H : ℕ × ℕ → Recovery → Type 0) → H k v → Rebuild (code w) (record { slot = slotAt w s; held = H }) k v i (packetOf content)
+  rebuilds H held = record { f = packetAt w s; left = q .left; right = q .right; held = held; is = q .is; missing = ap gone (slot-missing w s i (q .empty)); rest = q .rest; adds = q .adds }
+
+  -- it fits where its content does
+  fits-packet : code w .fits v (packetOf content) ≡ fits w v content
+  fits-packet = ap (fits w v) (content-from (w .p) content (q .size))
+
+  -- and is spoilt where that does not
+  pub spoilt-by : (H : ℕ × ℕ → Recovery → Type 0) → H k v → fits w v (contentOver w s (groupOf w k) (v .content)) ≡ false → Spoilt (code w) (record { slot = slotAt w s; held = H }) k v
+  spoilt-by H held e = (i, packetOf content, rebuilds H held, fits-packet ∙ e)
+
+  module _ {a u : ℕ} (G : Good w a u s) (big : goodLength (w .p) (v .size) ≡ true) (ok : fits w v (contentOver w s (groupOf w k) (v .content)) ≡ true) where
     -- the store with it
     abbrev after : Store
-    after = rebuiltIn w s (groupOf w k) v i
+    after = rebuiltIn w s (groupOf w k) (v .content) i
+
+    -- past its length there are zeros
+    clean : Clean (w .p) (content .length) (content .payload)
+    clean = fits-clean w v content ok (q .size)
 
     -- the missing slot is filled
     filled : slotAt w after i ≡ some (packetOf content)
-    filled = put-filled G i content (q .below) (q .size)
+    filled = put-filled G i content (q .below) clean
 
     -- the other slots stay
     others : (j : ℕ) → j ≢ i → slotAt w after j ≡ slotAt w s j
-    others = put-others G i content (q .below) (q .size)
+    others = put-others G i content (q .below) clean
 
     -- every packet is kept
     keeps : Keeps (view w s) (view w after)
     keeps = fill-keeps (view w s) (view w after) i _ (slot-missing w s i (q .empty)) filled others
 
-    -- after a rebuild no member of its check is missing
-    pub rebuild-full : Full (code w) (view w (rebuiltIn w s (groupOf w k) v i)) k
+    -- after a rebuild the store is in order, with one packet more
+    pub rebuild-good : Good w (a + 1) u (rebuiltIn w s (groupOf w k) (v .content) i)
+    rebuild-good = put-good G i content (q .below) clean (q .empty) (fits-good w v content ok big)
+
+    -- of each check at most one member fewer is missing
+    pub rebuild-missing : Limits w → (m : ℕ) → Missing (suc m) w s → Missing m w (rebuiltIn w s (groupOf w k) (v .content) i)
+    rebuild-missing = put-missing G i content (q .below) clean
+
+    -- no member of its check is missing
+    pub rebuild-full : Full (code w) (view w (rebuiltIn w s (groupOf w k) (v .content) i)) k
     rebuild-full =
         subst (None (miss (view w after))) (sym (q .is))
         (none-insert (miss (view w after)) (q .left) i (q .right) (ap gone filled) (λ j m. ap gone (keeps j _ (q .rest j m))))
 
-    -- a rebuild by check k, which is one of the checks H, is a step; the store need hold only the others
-    pub step-rebuild : (H : ℕ × ℕ → Content → Type 0) → H k v → ((l : ℕ × ℕ) (x : Content) → Held w s l x → H l x) → ((l : ℕ × ℕ) (x : Content) → H l x → Held w s l x ⊎ (l ≡ k))
-        → Step (code w) (record { slot = slotAt w s; held = H }) (view w (rebuiltIn w s (groupOf w k) v i))
+    -- and it is a step, by check k, which is one of the checks H; the store need hold only the others
+    pub step-rebuild : (H : ℕ × ℕ → Recovery → Type 0) → H k v → ((l : ℕ × ℕ) (x : Recovery) → Held w s l x → H l x) → ((l : ℕ × ℕ) (x : Recovery) → H l x → Held w s l x ⊎ (l ≡ k))
+        → Step (code w) (record { slot = slotAt w s; held = H }) (view w (rebuiltIn w s (groupOf w k) (v .content) i))
     step-rebuild H held sub sup = record {
       keeps = keeps;
-      new = λ j y e. ⊎-elim inl (λ z. inr (k, v, rw (← z .0, ← z .1) r)) (fill-new (view w s) (view w after) i (packetOf content) (slot-missing w s i (q .empty)) filled others j y e);
-      sub = λ l y h. sub l y (put-was-held G i content (q .below) (q .size) l y h);
-      release = λ l y h. ⊎-elim (λ z. inl (put-held G i content (q .below) (q .size) l y z)) (λ z. inr (inl (rw z rebuild-full))) (sup l y h);
+      new = λ j y e. ⊎-elim inl (λ z. inr (k, v, rw (← z .0, ← z .1) (rebuilds H held), ap (code w .fits v) (sym (z .1)) ∙ fits-packet ∙ ok)) (fill-new (view w s) (view w after) i (packetOf content) (slot-missing w s i (q .empty)) filled others j y e);
+      sub = λ l y h. sub l y (put-was-held G i content (q .below) clean l y h);
+      release = λ l y h. ⊎-elim (λ z. inl (put-held G i content (q .below) clean l y z)) (λ z. inr (inl (rw z rebuild-full))) (sup l y h);
     }
-      where
-        r : Rebuild (code w) (record { slot = slotAt w s; held = H }) k v i (packetOf content)
-        r = record { f = packetAt w s; left = q .left; right = q .right; held = held; is = q .is; missing = ap gone (slot-missing w s i (q .empty)); rest = q .rest; adds = q .adds }
 
--- ---- a spent check
+-- ---- a check that is let go
 
 -- a record and its payload set to zero (State.antt, release)
 abbrev pub freed : Window → Store → ℕ → Store
@@ -160,8 +184,8 @@ freed w s r = putRecord w s r blank (replicate (w .p) 0)
 
 module _ {w : Window} {a u : ℕ} {s : Store} (G : Good w a u s) (r : ℕ) (hr : r < rows w) (used : inUse w s r ≡ true) where
   -- zeros are a payload
-  size : length {A = ℕ} (replicate (w .p) 0) ≡ w .p
-  size = length-replicate (w .p) 0
+  size : Clean (w .p) 0 (replicate (w .p) 0)
+  size = take-all (w .p) (replicate (w .p) 0) (omega (arith, length-replicate {A = ℕ} (w .p) 0))
 
   -- a record that is set to zero is not in use
   freed-off : inUse w (freed w s r) r ≡ false
@@ -185,25 +209,27 @@ module _ {w : Window} {a u : ℕ} {s : Store} (G : Good w a u s) (r : ℕ) (hr :
 
   -- and the store stays in order
   pub freed-good : Good w a (u - 1) (freed w s r)
-  freed-good = record-good G r blank (replicate (w .p) 0) hr size (u - 1) (omega arith) (λ e. absurd (true≢false (sym e))) (λ e. absurd (true≢false (sym e))) (omega (arith, freed-count))
+  freed-good = record-good G r blank (replicate (w .p) 0) hr size (u - 1) (omega arith) (λ e. absurd (true≢false (sym e))) (λ e. absurd (true≢false (sym e))) (λ e. absurd (true≢false (sym e))) (omega (arith, freed-count))
 
-  -- letting go of a check with none missing is a step
-  pub step-free : length (missingAt w s r) ≡ 0 → Step (code w) (view w s) (view w (freed w s r))
-  step-free none-missing = record {
+  -- no slot changes
+  slot : (i : ℕ) → slotAt w (freed w s r) i ≡ slotAt w s i
+  slot = record-slot G r blank (replicate (w .p) 0) hr size
+
+  -- letting go of a check that is full or spoilt is a step
+  pub step-free : Full (code w) (view w (freed w s r)) (checkAt s r) ⊎ Spoilt (code w) (view w s) (checkAt s r) (recoveryAt w s r) → Step (code w) (view w s) (view w (freed w s r))
+  step-free why = record {
     keeps = λ i x e. slot i ∙ e;
     new = λ i x e. inl (sym (slot i) ∙ e);
     sub = λ k x h. record-was-held G r blank (replicate (w .p) 0) hr size k x h (freed-other (h .at) (h .used));
     release = λ k x h. go k x h (ℕ-discrete (h .at) r);
   }
     where
-      slot : (i : ℕ) → slotAt w (freed w s r) i ≡ slotAt w s i
-      slot = record-slot G r blank (replicate (w .p) 0) hr size
-
-      full : Full (code w) (view w (freed w s r)) (checkAt s r)
-      full j m =
-          let g = groupOf w (checkAt s r) in
-          ap gone (slot j) ∙ none-count (miss (view w s)) g (miss-count w s g (member-lt (G .shaped r hr used)) ∙ none-missing) j m
-
-      go : (k : ℕ × ℕ) (x : Content) (h : Held w s k x) → Dec (h .at ≡ r) → Held w (freed w s r) k x ⊎ (Full (code w) (view w (freed w s r)) k ⊎ Spoilt (code w) (view w s) k x)
+      go : (k : ℕ × ℕ) (x : Recovery) (h : Held w s k x) → Dec (h .at ≡ r) → Held w (freed w s r) k x ⊎ (Full (code w) (view w (freed w s r)) k ⊎ Spoilt (code w) (view w s) k x)
       go k x h (no n) = inl (record-held G r blank (replicate (w .p) 0) hr size k x h n)
-      go k x h (yes e) = inr (inl (rw (← (h .names), e) full))
+      go k x h (yes e) = inr (rw (← h .names, ← h .carries, e) why)
+
+  -- one with none missing is full
+  pub freed-full : length (missingAt w s r) ≡ 0 → Full (code w) (view w (freed w s r)) (checkAt s r)
+  freed-full none-missing j m =
+      let g = groupOf w (checkAt s r) in
+      ap gone (slot j) ∙ none-count (miss (view w s)) g (miss-count w s g (member-lt (G .shaped r hr used)) ∙ none-missing) j m

@@ -15,15 +15,15 @@ use Rattle.window.specs.declared.Window.{Window}
 use Rattle.window.specs.Limits.{width, rows}
 use Rattle.window.specs.Store.{Store, recordAt}
 use Rattle.window.specs.Group.{position, inside}
-use Rattle.window.specs.Order.{isPresent, inUse, groupAt}
-use Rattle.calls.specs.Content.{Content, xorContents, recoveryAt}
+use Rattle.window.specs.Order.{isPresent, inUse}
+use Rattle.calls.specs.Content.{Recovery, recoveryAt}
 use Rattle.peel.specs.Peel as Theory
 use Rattle.guarantee.specs.Ranges.{upTo-lt, upTo-mem, keep-mem, mem-keep}
 use Rattle.guarantee.specs.Packets.{Packet, packetOf}
 use Rattle.guarantee.specs.View.{Limits, groupOf, code, Held, packetAt, view, slot-is, slot-present, Good, mark-one}
-use Rattle.guarantee.specs.Demand3.{Offer, Stretch, Fills, Unaltered, Name, mediaName, parityName, nameOf, namesOf, Received, groupNamed, groupsOf, listed, different, distinctGroups}
+use Rattle.guarantee.specs.Demand3.{Offer, Stretch, Fills, recoverySent, Unaltered, Name, mediaName, parityName, nameOf, namesOf, Received, groupNamed, groupsOf, listed, different, distinctGroups}
 use Rattle.guarantee.specs.Start.{Holds, mediaHeld, parityHeld, heldAnd}
-use Rattle.guarantee.specs.Sent.{sent, seen, recovery-sum, unaltered-seen, position-number, media-name, name-media, check-name, name-check}
+use Rattle.guarantee.specs.Sent.{sent, seen, check-sent, check-carries, media-carries, position-number, media-name, name-media, check-name, name-check}
 
 -- ---- the different groups of a list
 
@@ -59,7 +59,7 @@ pub distinct-has : (names : List Name) (stream snbase : ℕ) → List·Memᴰ (p
 distinct-has names a b m = different-has (groupsOf names) (a, b) (groups-has names a b m)
 
 -- what a run of these offers from a store has received, as the theory has it
-abbrev pub Got : Window → Store → List Offer → Theory.Set (Theory.Offer (ℕ × ℕ) Content Packet)
+abbrev pub Got : Window → Store → List Offer → Theory.Set (Theory.Offer (ℕ × ℕ) Recovery Packet)
 Got w s offers = Theory.Plus (Theory.Has (view w s)) (map (seen w) offers)
 
 -- the two names are not one
@@ -82,14 +82,14 @@ module _ {w : Window} (L : Limits w) {t : Stretch} (F : Fills w t) {a u : ℕ} {
       (z .0, Memᴰ·append-right (mediaHeld w s ++ parityHeld w s) (Memᴰ·cast (sym (z .1)) (Memᴰ·map nameOf (o .1))))
 
   -- the group of a check lies in the window, and its name is received
-  pub check-in : (k : ℕ × ℕ) (c : Content) → Got w s offers (Theory.check k c) → (inside w (k .0) (k .1) ≡ true) × Received (heldAnd w s offers) (parityName (k .0) (k .1))
-  check-in k c (inl h) =
+  pub check-in : (k : ℕ × ℕ) (v : Recovery) → Got w s offers (Theory.check k v) → (inside w (k .0) (k .1) ≡ true) × Received (heldAnd w s offers) (parityName (k .0) (k .1))
+  check-in k v (inl h) =
       let there : List·Memᴰ (h .at) (keep (inUse w s) (upTo (rows w))) = keep-mem (inUse w s) (upTo (rows w)) (h .at) (h .used) (upTo-mem (rows w) (h .at) (h .below)) in
       let name : List·Memᴰ (parityName (recordAt s (h .at) .stream) (recordAt s (h .at) .snbase)) (parityHeld w s) = Memᴰ·map (λ r. parityName (recordAt s r .stream) (recordAt s r .snbase)) there in
       rw (← h .names) (G .shaped (h .at) (h .below) (h .used) .within, Memᴰ·append-left (namesOf offers) (Memᴰ·append-right (mediaHeld w s) name))
-  check-in k c (inr m) =
+  check-in k v (inr m) =
       let o = Memᴰ·of-map (seen w) offers m in
-      let z = check-name L F (o .0 .port) (o .0 .datagram) (ok (o .0) (o .1)) k c (o .2) in
+      let z = check-name L F (o .0 .port) (o .0 .datagram) (ok (o .0) (o .1)) k v (o .2) in
       (z .0, Memᴰ·append-right (mediaHeld w s ++ parityHeld w s) (Memᴰ·cast (sym (z .1)) (Memᴰ·map nameOf (o .1))))
 
   -- ---- and back
@@ -108,7 +108,7 @@ module _ {w : Window} (L : Limits w) {t : Stretch} (F : Fills w t) {a u : ℕ} {
       same-number e = cc
 
   -- a parity packet in hand
-  held-check : (a b : ℕ) → List·Memᴰ (parityName a b) (parityHeld w s) → (c : Content) × Held w s (a, b) c
+  held-check : (a b : ℕ) → List·Memᴰ (parityName a b) (parityHeld w s) → (v : Recovery) × Held w s (a, b) v
   held-check a b m =
       let r = Memᴰ·of-map (λ r. parityName (recordAt s r .stream) (recordAt s r .snbase)) (keep (inUse w s) (upTo (rows w))) m in
       let q = mem-keep (inUse w s) (upTo (rows w)) (r .0) (r .1) in
@@ -132,14 +132,14 @@ module _ {w : Window} (L : Limits w) {t : Stretch} (F : Fills w t) {a u : ℕ} {
           (x .0, inr (Memᴰ·cast (sym (x .1)) (Memᴰ·map (seen w) (o .1))))
 
   -- a parity packet that is received by its name
-  pub in-check : (a b : ℕ) → Received (heldAnd w s offers) (parityName a b) → (c : Content) × Got w s offers (Theory.check (a, b) c)
+  pub in-check : (a b : ℕ) → Received (heldAnd w s offers) (parityName a b) → (v : Recovery) × Got w s offers (Theory.check (a, b) v)
   in-check a b m = ⊎-elim (λ q. ⊎-elim (λ n. absurd (other n)) (λ n. let z = held-check a b n in (z .0, inl (z .1))) (List·Memᴰ·append-cases (mediaHeld w s) q)) listed
       (List·Memᴰ·append-cases (mediaHeld w s ++ parityHeld w s) m)
     where
       other : List·Memᴰ (parityName a b) (mediaHeld w s) → ⊥
       other n = not-parity (Memᴰ·of-map (λ i. mediaName (numberAt width (w .base) i)) (keep (isPresent (s .marks)) (upTo (w .n))) n .2)
 
-      listed : List·Memᴰ (parityName a b) (namesOf offers) → (c : Content) × Got w s offers (Theory.check (a, b) c)
+      listed : List·Memᴰ (parityName a b) (namesOf offers) → (v : Recovery) × Got w s offers (Theory.check (a, b) v)
       listed q =
           let o = Memᴰ·of-map nameOf offers q in
           let x = name-check L F (o .0 .port) (o .0 .datagram) a b (o .2) in
@@ -147,11 +147,11 @@ module _ {w : Window} (L : Limits w) {t : Stretch} (F : Fills w t) {a u : ℕ} {
 
   -- ---- what was received is unaltered, where the store held only such
 
-  pub got-unaltered : Holds w t s → (p : Theory.Offer (ℕ × ℕ) Content Packet) → Got w s offers p → Theory.Unaltered (code w) (sent t) p
+  pub got-check : Holds w t s → (k : ℕ × ℕ) (v : Recovery) → Got w s offers (Theory.check k v) → v ≡ recoverySent w t (groupOf w k)
+  got-check H k v (inl h) = sym (h .carries) ∙ H .parity (h .at) (h .below) (h .used) ∙ ap (λ j. recoverySent w t (groupOf w j)) (h .names)
+  got-check H k v (inr m) = let o = Memᴰ·of-map (seen w) offers m in check-carries L F (o .0 .port) (o .0 .datagram) (ok (o .0) (o .1)) k v (o .2)
+
+  pub got-unaltered : Holds w t s → (p : Theory.Offer (ℕ × ℕ) Recovery Packet) → Got w s offers p → Theory.Unaltered (code w) (sent w t) p
   got-unaltered H (Theory.media i x) (inl e) = let z = slot-is w s i x e in z .2 ∙ ap packetOf (H .media i (z .0) (mark-one G i (z .0) (z .1)))
-  got-unaltered H (Theory.check k c) (inl h) =
-      let z : recoveryAt w s (h .at) ≡ xorContents (w .p) t (groupAt w s (h .at)) = H .parity (h .at) (h .below) (h .used) in
-      let g : groupAt w s (h .at) ≡ groupOf w k = ap (groupOf w) (h .names) in
-      let e : c ≡ xorContents (w .p) t (groupOf w k) = sym (h .carries) ∙ z ∙ ap (xorContents (w .p) t) g in
-      (ap packetOf e ∙ recovery-sum F k (rw (← h .names) (G .shaped (h .at) (h .below) (h .used) .within)), λ i m. refl)
-  got-unaltered H p (inr m) = let o = Memᴰ·of-map (seen w) offers m in rw (sym (o .2)) (unaltered-seen L F (o .0 .port) (o .0 .datagram) (ok (o .0) (o .1)))
+  got-unaltered H (Theory.media i x) (inr m) = let o = Memᴰ·of-map (seen w) offers m in media-carries L F (o .0 .port) (o .0 .datagram) (ok (o .0) (o .1)) i x (o .2)
+  got-unaltered H (Theory.check k v) m = check-sent F k (check-in k v m .0) v (got-check H k v m)

@@ -4,36 +4,38 @@ use mathlib.Core.Bool.{Bool, true, false, cond, true≢false}
 use mathlib.Core.List.{List, [], _∷_, _++_}
 use Prim.Native.Nat.{ℕ, _^_, _<_, _≤_}
 use native.Mathlib.Omega.{arith}
+use lib.ListN.{length, drop}
 use lib.Dec.{eqb}
 use borrow.Author.Tests.{eqb-true, eq-eqb, ne-eqb}
 use Rattle.answer.specs.declared.Answer.the-variants.{Done, Refused}
 use Rattle.answer.specs.First.{first, None}
-use Rattle.rtp.specs.Rtp.{sequenceNumber}
-use Rattle.rtp.specs.Fec.{snbase}
+use Rattle.rtp.specs.Rtp.{rtpHeaderSize, sequenceNumber}
+use Rattle.rtp.specs.Fec.{parityHeaderSize, snbase}
 use Rattle.sequence.specs.Lists.{any-false}
 use Rattle.window.specs.declared.Window.{Window}
 use Rattle.window.specs.Limits.{width, rows}
 use Rattle.window.specs.Store.{Store, recordAt}
 use Rattle.window.specs.Group.{position}
 use Rattle.window.specs.Order.{inUse}
-use Rattle.calls.specs.Content.{Content}
+use Rattle.calls.specs.Content.{Recovery}
 use Rattle.calls.specs.State.{recount}
 use Rattle.calls.specs.Accept.{contentOf, recoveryOf}
 use Rattle.calls.specs.Call.{Outcome, mediaOfferTests, holds, parityOfferTests, refused, offeredMedia, offeredParity}
 use Rattle.calls.specs.Passed.{media-passed, parity-passed}
 use Rattle.peel.specs.Peel.{Offer, media, check}
 use Rattle.guarantee.specs.Packets.{Packet, packetOf}
+use Rattle.guarantee.specs.Lengths.{padded-clean, units-le}
 use Rattle.guarantee.specs.View.{checkAt}
 use Rattle.guarantee.specs.Order.{limits-of, standing}
 use Rattle.guarantee.specs.Accepted.{take-media, take-parity, Settled, settles}
 
 -- a media datagram as the theory sees it: a packet at its position
-abbrev pub mediaSeen : Window → List ℕ → Offer (ℕ × ℕ) Content Packet
-mediaSeen w g = media (position w (sequenceNumber g)) (packetOf (contentOf g))
+abbrev pub mediaSeen : Window → List ℕ → Offer (ℕ × ℕ) Recovery Packet
+mediaSeen w g = media (position w (sequenceNumber g)) (packetOf (contentOf (w .p) g))
 
 -- a parity datagram: the check of its group
-abbrev pub paritySeen : (stream : ℕ) → List ℕ → Offer (ℕ × ℕ) Content Packet
-paritySeen stream g = check (stream, snbase g) (recoveryOf g)
+abbrev pub paritySeen : Window → (stream : ℕ) → List ℕ → Offer (ℕ × ℕ) Recovery Packet
+paritySeen w stream g = check (stream, snbase g) (recoveryOf (w .p) g)
 
 -- ---- tests
 
@@ -43,12 +45,12 @@ none-split [] us n = (tt, n)
 none-split ((k, t) ∷ ts) us n = let z = none-split ts us (n .1) in ((n .0, z .0), z .1)
 
 -- a call that answers done met no refusal
-pub done-first : (ts : List (ℕ × Bool)) (x y : Outcome) (k c : ℕ) → y .answer ≡ Refused k → cond (eqb (first ts) 0) x y .answer ≡ Done c → first ts ≡ 0
-done-first ts x y k c r e = go (eqb (first ts) 0) refl e
+pub done-first : (ts : List (ℕ × Bool)) (x y : Outcome) (k c q : ℕ) → y .answer ≡ Refused k → cond (eqb (first ts) 0) x y .answer ≡ Done c q → first ts ≡ 0
+done-first ts x y k c q r e = go (eqb (first ts) 0) refl e
   where
-    go : (b : Bool) → eqb (first ts) 0 ≡ b → cond b x y .answer ≡ Done c → first ts ≡ 0
-    go true q h = eqb-true (first ts) 0 q
-    go false q h = absurd (let z : _≡_ {A = ℕ} 0 1 = cc in omega arith)
+    go : (b : Bool) → eqb (first ts) 0 ≡ b → cond b x y .answer ≡ Done c q → first ts ≡ 0
+    go true z h = eqb-true (first ts) 0 z
+    go false z h = absurd (let z : _≡_ {A = ℕ} 0 1 = cc in omega arith)
 
 -- a record in use of that stream and SNBase holds the group
 pub is-holder : (w : Window) (s : Store) (k : ℕ × ℕ) (q : ℕ) → inUse w s q ≡ true → checkAt s q ≡ k → holds w s (k .0) (k .1) q ≡ true
@@ -75,15 +77,17 @@ module _ (w : Window) (based : w .base < 2 ^ width) (a u : ℕ) (s : Store) (g :
   media-accepted e =
       let p = media-passed (recount w a u) g s e in
       let o = standing w a u s (p .standing) in
-      rw e (settles (take-media (limits-of w a u based (p .standing .set-up)) (o .good) (o .waits) (position w (sequenceNumber g)) (contentOf g) (p .in-window) (p .new) (p .size)))
+      rw e (settles (take-media (limits-of w a u based (p .standing .set-up)) (o .good) (o .waits) (position w (sequenceNumber g)) (contentOf (w .p) g) (p .in-window) (p .new)
+      (padded-clean (w .p) (drop rtpHeaderSize g) (units-le (w .p) (w .p) (length (drop rtpHeaderSize g)) (p .size))) (p .size)))
 
   -- a parity offer that no refusal applies to is taken in and settled
-  pub parity-accepted : (stream : ℕ) → stream ≤ 1 → first (parityOfferTests (recount w a u) stream g s) ≡ 0 → Settled w a s (paritySeen stream g) 0 (offeredParity stream (recount w a u) g s)
+  pub parity-accepted : (stream : ℕ) → stream ≤ 1 → first (parityOfferTests (recount w a u) stream g s) ≡ 0 → Settled w a s (paritySeen w stream g) 0 (offeredParity stream (recount w a u) g s)
   unfolding offeredParity
   parity-accepted stream hs e =
       let p = parity-passed (recount w a u) stream g s e in
       let o = standing w a u s (p .standing) in
-      rw e (settles (take-parity (limits-of w a u based (p .standing .set-up)) (o .good) (o .waits) stream (snbase g) (recoveryOf g)
-      (record { known = hs; rows = p .permitted; within = p .in-window }) (p .size)
+      rw e (settles (take-parity (limits-of w a u based (p .standing .set-up)) (o .good) (o .waits) stream (snbase g) (recoveryOf (w .p) g)
+      (record { known = hs; rows = p .permitted; within = p .in-window })
+      (padded-clean (w .p) (drop parityHeaderSize g) (units-le (w .p) (w .p) (length (drop parityHeaderSize g)) (p .size))) (p .size)
       (λ q h i e. true≢false (sym (is-holder w s (stream, snbase g) q i e) ∙ any-false (holds w s stream (snbase g)) (rows w) (p .new) q h))
       (p .has-room)))

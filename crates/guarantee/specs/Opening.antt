@@ -22,11 +22,11 @@ use Rattle.guarantee.specs.Demand3.{Offer, Stretch, Fills, namesOf, mark
 use Rattle.guarantee.specs.Start.{Start, counted, receivedFrom}
 
 -- an opening that answered 0 met no refusal, and set the store to zero
-pub opening : (w : Window) (s : Store) → opened w s .answer ≡ Done 0 → (None (setUpTests w)) × (opened w s ≡ record { answer = Done 0; window = w; store = cleared w s })
+pub opening : (w : Window) (s : Store) → opened w s .answer ≡ Done 0 0 → (None (setUpTests w)) × (opened w s ≡ record { answer = Done 0 0; window = w; store = cleared w s })
 unfolding opened
 opening w s e =
-    let z : first (openTests w s) ≡ 0 = done-first (openTests w s) (record { answer = Done 0; window = w; store = cleared w s })
-    (record { answer = Refused (first (openTests w s)); window = noWindow; store = s }) (first (openTests w s)) 0 refl e in
+    let z : first (openTests w s) ≡ 0 = done-first (openTests w s) (record { answer = Done 0 0; window = w; store = cleared w s })
+    (record { answer = Refused (first (openTests w s)); window = noWindow; store = s }) (first (openTests w s)) 0 0 refl e in
     (none-split (setUpTests w) ((4, shortStore w s) ∷ []) (first-none (openTests w s) (tt, (tt, (tt, (tt, tt)))) z) .0, rw z)
 
 -- a part whose first n elements were set to x
@@ -55,13 +55,16 @@ module _ (w : Window) (s : Store) where
       fits = record {
         media-long = front-long (w .n * w .p) 0 (s .media);
         timestamps-long = front-long (w .n) 0 (s .timestamps);
+        lengths-long = front-long (w .n) 0 (s .lengths);
         marks-long = front-long (w .n) 0 (s .marks);
         parity-long = front-long (rows w * w .p) 0 (s .parity);
         records-long = front-long (rows w) blank (s .records);
       };
       mark = λ i h. omega (arith, front-at (w .n) 0 (s .marks) i h);
+      long = λ i h e. absurd (true≢false (sym e ∙ absent i h));
       use-mark = λ r h. rw (front-at (rows w) blank (s .records) r h) (omega arith);
       shaped = λ r h e. absurd (true≢false (sym e ∙ unused r h));
+      sized = λ r h e. absurd (true≢false (sym e ∙ unused r h));
       apart = λ q r hq hr eq er e. absurd (true≢false (sym eq ∙ unused q hq));
       presents = a ∙ sym (count-zero (isPresent (cleared w s .marks)) (upTo (w .n)) (λ i m. absent i (upTo-lt (w .n) i m)));
       in-use = u ∙ sym (count-zero (inUse w (cleared w s)) (upTo (rows w)) (λ r m. unused r (upTo-lt (rows w) r m)));

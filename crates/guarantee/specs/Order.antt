@@ -25,7 +25,7 @@ use Rattle.guarantee.specs.View.{Limits, checkAt, Good, Missing}
 pub limits-of : (w : Window) (a u : ℕ) → w .base < 2 ^ width → SetUp (recount w a u) → Limits w
 limits-of w a u h z = record {
   based = h;
-  set-up = record { profile = z .profile; p-low = z .p-low; p-high = z .p-high; room = z .room; n-high = z .n-high; k-low = z .k-low; k-high = z .k-high };
+  set-up = record { profile = z .profile; p-low = z .p-low; p-high = z .p-high; p-good = z .p-good; room = z .room; n-high = z .n-high; k-low = z .k-low; k-high = z .k-high };
 }
 
 -- refusals 1 to 3 do not apply
@@ -42,6 +42,7 @@ not-short w s f =
     rw (
       le-ltb (length (s .media)) (w .n * w .p) (f .media-long),
       le-ltb (length (s .timestamps)) (w .n) (f .timestamps-long),
+      le-ltb (length (s .lengths)) (w .n) (f .lengths-long),
       le-ltb (length (s .marks)) (w .n) (f .marks-long),
       le-ltb (length (s .parity)) (rows w * w .p) (f .parity-long),
       le-ltb (length (s .records)) (rows w) (f .records-long),
@@ -59,8 +60,10 @@ module _ (w : Window) (a u : ℕ) (s : Store) where
     good = record {
       fits = f;
       mark = o .marks-good;
+      long = o .lengths-good;
       use-mark = o .uses-good;
       shaped = λ r h e. let z = o .records-wait r h e in record { known = z .stream-high; rows = z .row-permitted; within = z .lies-inside };
+      sized = λ r h e. o .records-wait r h e .size-good;
       apart = λ q r hq hr eq er e. unlike q r hq hr eq er e (ℕ-discrete q r) (decLt q r);
       presents = o .present-count;
       in-use = o .use-count;
@@ -82,11 +85,13 @@ module _ (w : Window) (a u : ℕ) (s : Store) where
   pub good-order : Ordered → disorder (recount w a u) s ≡ false
   good-order o = order-in (recount w a u) s (record {
     marks-good = o .good .mark;
+    lengths-good = o .good .long;
     uses-good = o .good .use-mark;
     records-wait = λ r h e. let z = o .good .shaped r h e in record {
       stream-high = z .known;
       row-permitted = z .rows;
       lies-inside = z .within;
+      size-good = o .good .sized r h e;
       is-first = λ q l i. first r h e q l i (sameGroup (recordAt s q) (recordAt s r)) refl;
       waits-for = o .waits .least r h e;
     };
@@ -106,7 +111,7 @@ module _ (w : Window) (a u : ℕ) (s : Store) where
   pub standing : {room need : ℕ} → Standing (recount w a u) s room need → Ordered
   standing n =
       let z = n .sized in
-      order-good (record { media-long = z .media-long; timestamps-long = z .timestamps-long; marks-long = z .marks-long; parity-long = z .parity-long; records-long = z .records-long }) (n .order)
+      order-good (record { media-long = z .media-long; timestamps-long = z .timestamps-long; lengths-long = z .lengths-long; marks-long = z .marks-long; parity-long = z .parity-long; records-long = z .records-long }) (n .order)
 
   -- and back
   pub stands : None (setUpTests w) → Ordered → None (standingTests (recount w a u) s 0 0)

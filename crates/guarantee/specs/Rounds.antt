@@ -3,7 +3,6 @@ use mathlib.Core.Path.{_≡_, refl, sym, ap, _∙_, subst}
 use mathlib.Core.Logic.{_≢_, _⊎_, inl, inr, ⊎-elim}
 use mathlib.Core.Bool.{Bool, true, false, cond, _&&_, true≢false}
 use mathlib.Core.Option.{Option, none, some}
-use mathlib.Core.List.{List}
 use Prim.Native.Nat.{ℕ, zero, suc, _+_, _-_, _<_, _≤_}
 use native.Mathlib.Decide.{ℕ-discrete}
 use native.Mathlib.Omega.{arith}
@@ -12,24 +11,23 @@ use lib.Dec.{eqb, ltb}
 use borrow.Author.Tests.{eqb-true, eqb-false, eq-eqb}
 use Rattle.sequence.specs.Lists.{headOr}
 use Rattle.sequence.specs.Lists.{and-split as both}
+use Rattle.rtp.specs.Length.{goodLength}
 use Rattle.window.specs.declared.Window.{Window}
 use Rattle.window.specs.Limits.{rows}
 use Rattle.window.specs.Store.{Store}
 use Rattle.window.specs.Order.{inUse, groupAt, missingAt}
-use Rattle.calls.specs.Content.{Content, contentOver, recoveryAt}
-use Rattle.calls.specs.State.{State, scene, recount, rebuild, release}
-use Rattle.calls.specs.Settle.{ready, rank, better, nextBelow, next, releaseSpent, releaseBelow, releaseAll, rebuildBy, roundBy, round}
+use Rattle.calls.specs.Content.{Recovery, recoveryAt}
+use Rattle.calls.specs.State.{State, scene, recount, rebuild, countSpoilt, release}
+use Rattle.calls.specs.Settle.{ready, rank, better, nextBelow, next, releaseSpent, releaseBelow, releaseAll, fitsAt, rebuildBy, roundBy, round}
 use Rattle.peel.specs.Group.{count-none}
-use Rattle.peel.specs.Peel.{gone, miss, Steps, stop, go-on}
+use Rattle.peel.specs.Peel.{gone, miss, Spoilt, Steps, stop, go-on}
 use Rattle.peel.specs.Rest.{Still, Engine, steps-then}
-use Rattle.guarantee.specs.Packets.{Whole}
 use Rattle.guarantee.specs.View.{code, checkAt, member-lt, Held, view, miss-count, Good, recovery-whole, Missing, held-count}
-use Rattle.guarantee.specs.Changes.{put-good}
-use Rattle.guarantee.specs.Moves.{single, Solved, solved, rebuiltIn, rebuild-full, step-rebuild, freed, freed-other, freed-same, freed-fewer, freed-good, step-free}
+use Rattle.guarantee.specs.Moves.{single, Solved, solved, rebuiltIn, spoilt-by, rebuild-good, rebuild-full, step-rebuild, freed, freed-other, freed-same, freed-fewer, freed-good, step-free, freed-full}
 
 -- a state whose window value has a given window's set-up numbers
-abbrev pub at : Window → (a u : ℕ) → Store → (c : ℕ) → State
-at w a u s c = scene (recount w a u) s c
+abbrev pub at : Window → (a u : ℕ) → Store → (rebuilt spoilt : ℕ) → State
+at w a u s rebuilt spoilt = scene (recount w a u) s rebuilt spoilt
 
 -- nothing is not something
 none-some : {A : Type 0} {x : A} → _≡_ {A = Option A} none (some x) → ⊥
@@ -90,28 +88,28 @@ unpicked x (suc m) e r h = go (nextBelow x m) refl (unpicked x m) e
 -- ---- what is spent is released
 
 -- the state after the first m records with none missing were released
-pub record Freed (w : Window) (a u : ℕ) (s : Store) (c m : ℕ) (y : State) : Type 1 where
+pub record Freed (w : Window) (a u : ℕ) (s : Store) (c q m : ℕ) (y : State) : Type 1 where
   pub used : ℕ
   pub store : Store
-  pub is : y ≡ at w a used store c
+  pub is : y ≡ at w a used store c q
   pub good : Good w a used store
   pub steps : Steps (code w) (view w s) (view w store)
   pub spent : ((store ≡ s) × (used ≡ u)) ⊎ (used < u)
   pub least : (r : ℕ) → r < m → inUse w store r ≡ true → 1 ≤ length (missingAt w store r)
 
-module _ {w : Window} {a u : ℕ} {s : Store} (G : Good w a u s) (c : ℕ) where
+module _ {w : Window} {a u : ℕ} {s : Store} (G : Good w a u s) (c q : ℕ) where
   -- one record more
-  free-one : (m : ℕ) → m < rows w → (y : State) → Freed w a u s c m y → Freed w a u s c (suc m) (releaseSpent m y)
+  free-one : (m : ℕ) → m < rows w → (y : State) → Freed w a u s c q m y → Freed w a u s c q (suc m) (releaseSpent m y)
   free-one m hm y f = rw (f .is) (go (inUse w t m) (eqb (length (missingAt w t m)) 0) refl refl)
     where
       t : Store
       t = f .store
 
       x : State
-      x = at w a (f .used) t c
+      x = at w a (f .used) t c q
 
       -- it was not to be released
-      stays : (inUse w t m ≡ true → 1 ≤ length (missingAt w t m)) → Freed w a u s c (suc m) x
+      stays : (inUse w t m ≡ true → 1 ≤ length (missingAt w t m)) → Freed w a u s c q (suc m) x
       stays h = record {
         used = f .used;
         store = t;
@@ -126,29 +124,29 @@ module _ {w : Window} {a u : ℕ} {s : Store} (G : Good w a u s) (c : ℕ) where
           last r l e (yes z) = rw z (h (ap (inUse w t) (sym z) ∙ e))
           last r l e (no z) = f .least r (omega arith) e
 
-      go : (b d : Bool) → inUse w t m ≡ b → eqb (length (missingAt w t m)) 0 ≡ d → Freed w a u s c (suc m) (cond (b && d) (release m x) x)
-      go false d p q = stays (λ e. absurd (true≢false (sym e ∙ p)))
-      go true false p q = stays (λ e. let z = eqb-false (length (missingAt w t m)) 0 q in omega arith)
-      go true true p q = record {
+      go : (b d : Bool) → inUse w t m ≡ b → eqb (length (missingAt w t m)) 0 ≡ d → Freed w a u s c q (suc m) (cond (b && d) (release m x) x)
+      go false d p e = stays (λ h. absurd (true≢false (sym h ∙ p)))
+      go true false p e = stays (λ h. let z = eqb-false (length (missingAt w t m)) 0 e in omega arith)
+      go true true p e = record {
         used = f .used - 1;
         store = freed w t m;
         is = refl;
         good = freed-good (f .good) m hm p;
-        steps = steps-then (code w) (f .steps) (go-on (step-free (f .good) m hm p (eqb-true (length (missingAt w t m)) 0 q)) stop);
+        steps = steps-then (code w) (f .steps) (go-on (step-free (f .good) m hm p (inl (freed-full (f .good) m hm p (eqb-true (length (missingAt w t m)) 0 e)))) stop);
         spent = inr (⊎-elim (λ z. let l = freed-fewer (f .good) m hm p in omega (arith, z .1)) (λ z. let l = freed-fewer (f .good) m hm p in omega arith) (f .spent));
-        least = λ r l e. let n = freed-other (f .good) m hm p r e in old r l e n;
+        least = λ r l h. let n = freed-other (f .good) m hm p r h in old r l h n;
       }
         where
           old : (r : ℕ) → r < suc m → inUse w (freed w t m) r ≡ true → r ≢ m → 1 ≤ length (missingAt w (freed w t m) r)
           old r l e n = let z = freed-same (f .good) m hm p r n in rw z (f .least r (omega arith) (rw z at e))
 
   -- the first m records
-  pub free-below : (m : ℕ) → m ≤ rows w → Freed w a u s c m (releaseBelow m (at w a u s c))
+  pub free-below : (m : ℕ) → m ≤ rows w → Freed w a u s c q m (releaseBelow m (at w a u s c q))
   free-below zero h = record { used = u; store = s; is = refl; good = G; steps = stop; spent = inl (refl, refl); least = λ r l e. absurd (omega arith) }
-  free-below (suc m) h = free-one m h (releaseBelow m (at w a u s c)) (free-below m (omega arith))
+  free-below (suc m) h = free-one m h (releaseBelow m (at w a u s c q)) (free-below m (omega arith))
 
 -- a record in use with none missing is among those released
-spends : {w : Window} {a u : ℕ} {s : Store} {c m : ℕ} {y : State} (f : Freed w a u s c m y) (r : ℕ) → r < m → inUse w s r ≡ true
+spends : {w : Window} {a u : ℕ} {s : Store} {c q m : ℕ} {y : State} (f : Freed w a u s c q m y) (r : ℕ) → r < m → inUse w s r ≡ true
     → length (missingAt w s r) ≡ 0 → f .used < u
 spends {w} {s = s} f r h used empty =
     ⊎-elim (λ z. absurd (let b : 1 ≤ length (missingAt w s r) = subst (λ t. 1 ≤ length (missingAt w t r)) (z .0) (f .least r h (ap (λ t. inUse w t r) (z .0) ∙ used)) in omega arith)) (λ z. z) (f .spent)
@@ -161,107 +159,160 @@ pub record Working (w : Window) (b : ℕ) (y : State) : Type 0 where
   pub used : ℕ
   pub store : Store
   pub count : ℕ
-  pub is : y ≡ at w present used store count
+  pub spoilt : ℕ
+  pub is : y ≡ at w present used store count spoilt
   pub good : Good w present used store
   pub least : Missing 1 w store
   pub rise : present ≡ b + count
 
--- one round from y to z: a number of steps; it found the receiver at rest and did nothing, or it rebuilt one packet and spent a record
+-- how much was done: packets rebuilt and parity packets found spoilt
+abbrev pub doneBy : State → ℕ
+doneBy y = y .rebuilt + y .spoilt
+
+-- some check in hand is spoilt
+abbrev pub SomeSpoilt : Window → Store → Type 0
+SomeSpoilt w s = (k : ℕ × ℕ) × (v : Recovery) × Spoilt (code w) (view w s) k v
+
+-- one round from y to z: a number of steps; it found the receiver at rest and did nothing, or it rebuilt one packet or found one check spoilt,
+-- and spent a record
 pub record Round (w : Window) (b : ℕ) (y z : State) : Type 1 where
   pub after : Working w b z
   pub steps : Steps (code w) (view w (y .store)) (view w (z .store))
-  pub work : ((z ≡ y) × Still (code w) (view w (y .store))) ⊎ ((z .window .«in_use» < y .window .«in_use») × (z .rebuilt ≡ suc (y .rebuilt)))
+  pub work : ((z ≡ y) × Still (code w) (view w (y .store))) ⊎ ((z .window .«in_use» < y .window .«in_use») × (doneBy z ≡ suc (doneBy y)))
+  pub clear : (z .spoilt ≡ y .spoilt) ⊎ SomeSpoilt w (y .store)
 
 -- no record is ready, so of no check in hand exactly one member is missing
-at-rest : {w : Window} {a u : ℕ} {s : Store} (c : ℕ) → Good w a u s → next (at w a u s c) ≡ none → Still (code w) (view w s)
+at-rest : {w : Window} {a u : ℕ} {s : Store} (c q : ℕ) → Good w a u s → next (at w a u s c q) ≡ none → Still (code w) (view w s)
 unfolding next
-at-rest {w} {a} {u} {s} c G e k v h one =
-    true≢false (sym (is-ready (h .at) (h .used) (sym (held-count G h) ∙ one)) ∙ unpicked (at w a u s c) (rows w) e (h .at) (h .below))
+at-rest {w} {a} {u} {s} c q G e k v h one =
+    true≢false (sym (is-ready (h .at) (h .used) (sym (held-count G h) ∙ one)) ∙ unpicked (at w a u s c q) (rows w) e (h .at) (h .below))
   where
-    is-ready : (r : ℕ) → inUse w s r ≡ true → length (missingAt w s r) ≡ 1 → ready (at w a u s c) r ≡ true
-    is-ready r p q = rw (p, eq-eqb (length (missingAt w s r)) 1 q)
+    is-ready : (r : ℕ) → inUse w s r ≡ true → length (missingAt w s r) ≡ 1 → ready (at w a u s c q) r ≡ true
+    is-ready r p z = rw (p, eq-eqb (length (missingAt w s r)) 1 z)
 
 -- a round by record r, of whose group one packet is missing
-round-by : {w : Window} {a u : ℕ} {s : Store} {b : ℕ} → Good w a u s → (r : ℕ) → r < rows w → inUse w s r ≡ true → length (missingAt w s r) ≡ 1
-    → (c : ℕ) → a ≡ b + c → Round w b (at w a u s c) (releaseAll (rebuildBy r (at w a u s c)))
-unfolding releaseAll rebuild
-round-by {w} {a} {u} {s} {b} G r hr used one c rise = subst (Round w b (at w a u s c)) (sym (f .is)) (record {
-  after = record {
-    present = a + 1;
-    used = f .used;
-    store = f .store;
-    count = c + 1;
-    is = refl;
-    good = f .good;
-    least = record { least = f .least };
-    rise = omega arith;
-  };
-  steps = go-on (step-rebuild G k v i q (Held w s)
-      (record { at = r; below = hr; used = used; names = refl; carries = refl }) (λ l x h. h) (λ l x h. inl h)) (f .steps);
-  work = inr (spends f r hr used empty, omega arith);
-})
-  where
-    k : ℕ × ℕ
-    k = checkAt s r
+module _ {w : Window} {a u : ℕ} {s : Store} (G : Good w a u s) (r : ℕ) (hr : r < rows w) (used : inUse w s r ≡ true) (one : length (missingAt w s r) ≡ 1) where
+  -- the check that it holds
+  abbrev k : ℕ × ℕ
+  k = checkAt s r
 
-    g : List ℕ
-    g = groupAt w s r
+  -- what it carries
+  abbrev v : Recovery
+  v = recoveryAt w s r
 
-    v : Content
-    v = recoveryAt w s r
+  -- its missing packet
+  abbrev i : ℕ
+  i = headOr 0 (missingAt w s r)
 
-    size : Whole (w .p) v
-    size = recovery-whole G r hr
+  -- and the others of its group
+  solves : Solved w s (groupAt w s r) (v .content) i
+  solves = solved w s (groupAt w s r) (member-lt (G .shaped r hr used)) (v .content) (recovery-whole w s r) i (single (missingAt w s r) one)
 
-    i : ℕ
-    i = headOr 0 (missingAt w s r)
+  -- the check is in hand
+  in-hand : Held w s k v
+  in-hand = record { at = r; below = hr; used = used; names = refl; carries = refl }
 
-    q : Solved w s g v i
-    q = solved G g (member-lt (G .shaped r hr used)) v size i (single (missingAt w s r) one)
+  -- what it gives fits: it rebuilds
+  round-rebuilds : {b : ℕ} (c q : ℕ) → a ≡ b + c → fitsAt (at w a u s c q) r ≡ true → Round w b (at w a u s c q) (releaseAll (rebuildBy r (at w a u s c q)))
+  unfolding releaseAll rebuild
+  round-rebuilds {b} c q rise ok = subst (Round w b (at w a u s c q)) (sym (f .is)) (record {
+    after = record {
+      present = a + 1;
+      used = f .used;
+      store = f .store;
+      count = c + 1;
+      spoilt = q;
+      is = refl;
+      good = f .good;
+      least = record { least = f .least };
+      rise = omega arith;
+    };
+    steps = go-on (step-rebuild k v i solves G big ok (Held w s) in-hand (λ l x h. h) (λ l x h. inl h)) (f .steps);
+    work = inr (spends f r hr used empty, omega arith);
+    clear = inl refl;
+  })
+    where
+      big : goodLength (w .p) (v .size) ≡ true
+      big = G .sized r hr used
 
-    t : Store
-    t = rebuiltIn w s g v i
+      t : Store
+      t = rebuiltIn w s (groupAt w s r) (v .content) i
 
-    f : Freed w (a + 1) u t (c + 1) (rows w) (releaseBelow (rows w) (at w (a + 1) u t (c + 1)))
-    f = free-below (put-good G i (contentOver w s g v) (q .below) (q .size) (q .empty)) (c + 1) (rows w) (omega arith)
+      f : Freed w (a + 1) u t (c + 1) q (rows w) (releaseBelow (rows w) (at w (a + 1) u t (c + 1) q))
+      f = free-below (rebuild-good k v i solves G big ok) (c + 1) q (rows w) (omega arith)
 
-    empty : length (missingAt w t r) ≡ 0
-    empty = sym (miss-count w t g (member-lt (G .shaped r hr used))) ∙ count-none (miss (view w t)) g (rebuild-full G k v i q)
+      empty : length (missingAt w t r) ≡ 0
+      empty = sym (miss-count w t (groupAt w s r) (member-lt (G .shaped r hr used))) ∙ count-none (miss (view w t)) (groupAt w s r) (rebuild-full k v i solves G big ok)
+
+  -- what it gives does not fit: it is let go
+  round-spoilt : {b : ℕ} (c q : ℕ) → a ≡ b + c → Missing 1 w s → fitsAt (at w a u s c q) r ≡ false → Round w b (at w a u s c q) (countSpoilt (release r (at w a u s c q)))
+  round-spoilt {b} c q rise K bad = record {
+    after = record {
+      present = a;
+      used = u - 1;
+      store = freed w s r;
+      count = c;
+      spoilt = q + 1;
+      is = refl;
+      good = freed-good G r hr used;
+      least = record { least = λ p h e. let z = freed-same G r hr used p (freed-other G r hr used p e) in rw z (K .least p h (rw z at e)) };
+      rise = rise;
+    };
+    steps = go-on (step-free G r hr used (inr spoilt)) stop;
+    work = inr (freed-fewer G r hr used, omega arith);
+    clear = inr (k, v, spoilt);
+  }
+    where
+      spoilt : Spoilt (code w) (view w s) k v
+      spoilt = spoilt-by k v i solves (Held w s) in-hand bad
 
 -- a round from a state in its normal form
-round-at : {w : Window} {a u : ℕ} {s : Store} {b : ℕ} (c : ℕ) → Good w a u s → Missing 1 w s → a ≡ b + c → Round w b (at w a u s c) (round (at w a u s c))
+round-at : {w : Window} {a u : ℕ} {s : Store} {b : ℕ} (c q : ℕ) → Good w a u s → Missing 1 w s → a ≡ b + c → Round w b (at w a u s c q) (round (at w a u s c q))
 unfolding round next
-round-at {w} {a} {u} {s} {b} c G k rise = go (next (at w a u s c)) refl
+round-at {w} {a} {u} {s} {b} c q G k rise = go (next (at w a u s c q)) refl
   where
     x : State
-    x = at w a u s c
+    x = at w a u s c q
 
     go : (o : Option ℕ) → next x ≡ o → Round w b x (roundBy o x)
     go none e = record {
-      after = record { present = a; used = u; store = s; count = c; is = refl; good = G; least = k; rise = rise };
+      after = record { present = a; used = u; store = s; count = c; spoilt = q; is = refl; good = G; least = k; rise = rise };
       steps = stop;
-      work = inl (refl, at-rest c G e);
+      work = inl (refl, at-rest c q G e);
+      clear = inl refl;
     }
-    go (some r) e =
-        let p = picked x (rows w) r e in
-        let b = both (inUse w s r) (eqb (length (missingAt w s r)) 1) (p .is-ready) in
-        round-by G r (p .below) (b .0) (eqb-true (length (missingAt w s r)) 1 (b .1)) c rise
+    go (some r) e = by (fitsAt x r) refl
+      where
+        p : Picked x (rows w) r
+        p = picked x (rows w) r e
+
+        ready-now : (inUse w s r ≡ true) × (eqb (length (missingAt w s r)) 1 ≡ true)
+        ready-now = both (inUse w s r) (eqb (length (missingAt w s r)) 1) (p .is-ready)
+
+        one : length (missingAt w s r) ≡ 1
+        one = eqb-true (length (missingAt w s r)) 1 (ready-now .1)
+
+        by : (d : Bool) → fitsAt x r ≡ d → Round w b x (cond d (releaseAll (rebuildBy r x)) (countSpoilt (release r x)))
+        by true ok = round-rebuilds G r (p .below) (ready-now .0) one c q rise ok
+        by false bad = round-spoilt G r (p .below) (ready-now .0) one c q rise k bad
 
 -- a round
 pub one-round : {w : Window} {b : ℕ} {y : State} → Working w b y → Round w b y (round y)
-one-round {w} {b} h = subst (λ y. Round w b y (round y)) (sym (h .is)) (round-at (h .count) (h .good) (h .least) (h .rise))
+one-round {w} {b} h = subst (λ y. Round w b y (round y)) (sym (h .is)) (round-at (h .count) (h .spoilt) (h .good) (h .least) (h .rise))
 
 -- ---- the engine
 
--- rounds as an engine of the theory: a round needs and keeps a working state, spends records in use and rebuilds packets
+-- rounds as an engine of the theory: a round needs and keeps a working state, spends records in use, and rebuilds packets or finds checks spoilt
 abbrev pub engine : (w : Window) (b : ℕ) → Engine (code w) State
 engine w b = record {
   see = λ y. view w (y .store);
   fit = Working w b;
   one = round;
   left = λ y. y .window .«in_use»;
-  did = λ y. y .rebuilt;
+  did = doneBy;
+  spoilt = λ y. y .spoilt;
   keeps = λ y h. one-round h .after;
   steps = λ y h. one-round h .steps;
   work = λ y h. one-round h .work;
+  clear = λ y h. one-round h .clear;
 }

@@ -1,10 +1,13 @@
 -- A list of offers as a run of the theory that keeps the invariant of Fine.antt.
 use mathlib.Core.Path.{_≡_, refl, sym, ap, _∙_, subst}
+use mathlib.Core.Logic.{_⊎_, inl, inr, ⊎-elim}
 use mathlib.Core.Bool.{Bool, true, false, cond, and-true, true≢false}
-use mathlib.Core.List.{List, [], _∷_, _++_, map, List·Memᴰ, List·Memᴰ·head, List·Memᴰ·tail, Memᴰ·cast, Memᴰ·map, Memᴰ·append-left, Memᴰ·append-right}
+use mathlib.Core.List.{List, [], _∷_, _++_, map, List·Memᴰ, List·Memᴰ·head, List·Memᴰ·tail, List·Memᴰ·not-nil, List·Memᴰ·cases-cons, Memᴰ·cast, Memᴰ·map, Memᴰ·append-left, Memᴰ·append-right}
 use Prim.Native.Nat.{ℕ, _≤_}
 use native.Mathlib.Omega.{arith}
 use lib.ListN.{length}
+use Rattle.answer.specs.declared.Answer.{Answer}
+use Rattle.answer.specs.Number.{spoiltOf}
 use Rattle.sequence.specs.Lists.{upTo}
 use Rattle.rtp.specs.Fec.{column, row, snbase}
 use Rattle.window.specs.declared.Window.{Window}
@@ -12,16 +15,18 @@ use Rattle.window.specs.Limits.{rows, parityRoom}
 use Rattle.window.specs.Store.{Store, recordAt}
 use Rattle.window.specs.Group.{position, inside}
 use Rattle.window.specs.Order.{inUse}
+use Rattle.calls.specs.Content.{Recovery}
 use Rattle.calls.specs.State.{recount}
 use Rattle.calls.specs.Call.{Outcome}
 use Rattle.calls.specs.Standing.{standing-good}
 use Rattle.peel.specs.Peel as Theory
 use Rattle.guarantee.specs.Ranges.{upTo-mem, keep-mem}
-use Rattle.guarantee.specs.View.{code}
+use Rattle.guarantee.specs.Packets.{Packet}
+use Rattle.guarantee.specs.View.{code, view}
 use Rattle.guarantee.specs.Recount.{fills-on, holds-on, unaltered-on}
 use Rattle.guarantee.specs.Order.{Ordered, limits, set-up-passes, standing}
 use Rattle.guarantee.specs.Fine.{Opened, Fine, Goes, fine-media, fine-parity, refused-parity}
-use Rattle.guarantee.specs.Demand3.{Port, mediaPort, columnPort, rowPort, Offer, callOf, offered, run, Stretch, Fills, UnalteredOn, Unaltered, Name, parityName, nameOn, nameOf, namesOf, groupNamed, distinctGroups}
+use Rattle.guarantee.specs.Demand3.{Port, mediaPort, columnPort, rowPort, Offer, callOf, offered, run, answers, Stretch, Fills, UnalteredOn, Unaltered, Name, parityName, nameOn, nameOf, namesOf, groupNamed, distinctGroups}
 use Rattle.guarantee.specs.Start.{Holds, mediaHeld, parityHeld, every, counts, counted, receivedFrom, GivenFrom}
 use Rattle.guarantee.specs.Sent.{seenOn, seen, media-read, parity-read, position-number}
 use Rattle.guarantee.specs.Names.{distinct-has}
@@ -39,27 +44,37 @@ module _ (w : Window) (D : List (ℕ × ℕ)) where
   outside-refused columnPort g e f = refused-parity column g (rw and-true at e) f
   outside-refused rowPort g e f = refused-parity row g (rw and-true at e) f
 
+  -- what a list of offers leaves: the invariant, by a run of the theory; where an answer counts a check as spoilt, one was found so
+  pub record Arrived (os : List (Theory.Offer (ℕ × ℕ) Recovery Packet)) (s : Store) (answered : List Answer) (x : Outcome) : Type 1 where
+    pub fine : Fine w D (x .window) (x .store)
+    pub runs : Theory.Runs (code w) (view w s) os (view w (x .store))
+    pub clear : (a : Answer) → List·Memᴰ a answered → (spoiltOf a ≡ 0) ⊎ Theory.Spoiling (code w) (view w s) os
+
+  -- a call, then a list
+  call-then : {os ps : List (Theory.Offer (ℕ × ℕ) Recovery Packet)} {s : Store} {answered : List Answer} {x y : Outcome}
+      → Goes w D os s x → Arrived ps (x .store) answered y → Arrived (os ++ ps) s (x .answer ∷ answered) y
+  call-then {os} {ps} {s} {answered} {x} a b = record {
+    fine = b .fine;
+    runs = Theory.runs-then (code w) (a .runs) (b .runs);
+    clear = λ z m. ⊎-elim (λ e. ⊎-elim (λ c. inl (ap spoiltOf e ∙ c)) (λ c. inr (Theory.spoiling-more (code w) ps c)) (a .clear))
+        (λ n. ⊎-elim inl (λ c. inr (Theory.spoiling-then (code w) (a .runs) c)) (b .clear z n)) (List·Memᴰ·cases-cons m);
+  }
+
   -- a list of which each that counts keeps the invariant
   fine-run : (offers : List Offer) → ((o : Offer) → List·Memᴰ o (counted w offers) → Keeping o)
-      → (x : Outcome) → Fine w D (x .window) (x .store) → Goes w D (map (seen w) (counted w offers)) (x .store) (run x offers)
-  unfolding run
-  fine-run [] each x f = record { fine = f; runs = Theory.done }
+      → (x : Outcome) → Fine w D (x .window) (x .store) → Arrived (map (seen w) (counted w offers)) (x .store) (answers x offers) (run x offers)
+  unfolding run answers
+  fine-run [] each x f = record { fine = f; runs = Theory.done; clear = λ a m. absurd (List·Memᴰ·not-nil m) }
   fine-run (o ∷ offers) each x f = go (counts w o) refl each (fine-run offers)
     where
       next : Outcome
       next = offered o (x .window) (x .store)
 
       go : (b : Bool) → counts w o ≡ b → ((p : Offer) → List·Memᴰ p (cond b (o ∷ counted w offers) (counted w offers)) → Keeping p)
-          → (((p : Offer) → List·Memᴰ p (counted w offers) → Keeping p) → (y : Outcome) → Fine w D (y .window) (y .store) → Goes w D (map (seen w) (counted w offers)) (y .store) (run y offers))
-          → Goes w D (map (seen w) (cond b (o ∷ counted w offers) (counted w offers))) (x .store) (run next offers)
-      go true e each rest =
-          let a = each o (List·Memᴰ·head refl) (x .window) (x .store) f in
-          let b = rest (λ p m. each p (List·Memᴰ·tail m)) next (a .fine) in
-          record { fine = b .fine; runs = Theory.runs-then (code w) (a .runs) (b .runs) }
-      go false e each rest =
-          let a = outside-refused (o .port) (o .datagram) e f in
-          let b = rest each next (a .fine) in
-          record { fine = b .fine; runs = Theory.runs-then (code w) (a .runs) (b .runs) }
+          → (((p : Offer) → List·Memᴰ p (counted w offers) → Keeping p) → (y : Outcome) → Fine w D (y .window) (y .store) → Arrived (map (seen w) (counted w offers)) (y .store) (answers y offers) (run y offers))
+          → Arrived (map (seen w) (cond b (o ∷ counted w offers) (counted w offers))) (x .store) (next .answer ∷ answers next offers) (run next offers)
+      go true e each rest = let a = each o (List·Memᴰ·head refl) (x .window) (x .store) f in call-then a (rest (λ p m. each p (List·Memᴰ·tail m)) next (a .fine))
+      go false e each rest = let a = outside-refused (o .port) (o .datagram) e f in call-then a (rest each next (a .fine))
 
 -- an unaltered offer whose group is in D keeps the invariant: there is room for it
 fine-offer : {w : Window} (O : Opened w) {t : Stretch} → Fills w t → {D : List (ℕ × ℕ)} → length D ≤ parityRoom w → (p : Port) (g : List ℕ) → UnalteredOn w t p g
@@ -103,7 +118,7 @@ ready-at w a u x {t} {offers} e G =
 
 -- the list is a run from there
 pub arrives : {w : Window} {a u : ℕ} {t : Stretch} {offers : List Offer} (x : Outcome) → x .window ≡ recount w a u → Ready w a u (x .store) t offers
-    → Goes w (distinctGroups (receivedFrom w (x .store) offers)) (map (seen w) (counted w offers)) (x .store) (run x offers)
+    → Arrived w (distinctGroups (receivedFrom w (x .store) offers)) (map (seen w) (counted w offers)) (x .store) (answers x offers) (run x offers)
 arrives {w} {a} {u} {offers = offers} x e R = fine-run w received-groups offers
     (λ o m. fine-offer (R .within) (R .fills) (R .few-groups) (o .port) (o .datagram) (R .unaltered o m)
     (λ a b e. distinct-has received a b (Memᴰ·append-right (mediaHeld w (x .store) ++ parityHeld w (x .store)) (Memᴰ·cast (sym e) (Memᴰ·map nameOf m))))) x

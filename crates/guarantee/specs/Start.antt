@@ -14,17 +14,17 @@ use Rattle.window.specs.Limits.{width, rows, parityRoom}
 use Rattle.window.specs.Store.{Store, recordAt}
 use Rattle.window.specs.Group.{inside}
 use Rattle.window.specs.Order.{isPresent, inUse, groupAt}
-use Rattle.calls.specs.Content.{xorContents, contentAt, recoveryAt}
+use Rattle.calls.specs.Content.{contentAt, recoveryAt}
 use Rattle.calls.specs.State.{recount}
 use Rattle.calls.specs.Call.{Outcome, standingTests}
-use Rattle.guarantee.specs.Demand3.{Offer, run, Stretch, Fills, Unaltered, Name, mediaName, parityName, nameOf, namesOf, groupNamed, distinctGroups, markAt, Demand3, SamePackets}
+use Rattle.guarantee.specs.Demand3.{Offer, run, answers, Stretch, Fills, contentSent, recoverySent, Unaltered, Name, mediaName, parityName, nameOf, namesOf, groupNamed, distinctGroups, markAt, Demand3, SamePackets}
 
 -- ---- a start
 
 -- everything that the store holds is unaltered: each packet present is the one sent, each record in use holds the recovery of its group
 pub record Holds (w : Window) (t : Stretch) (s : Store) : Type 0 where
-  pub media : (i : ℕ) → i < w .n → markAt s i ≡ 1 → contentAt w s i ≡ t i
-  pub parity : (r : ℕ) → r < rows w → inUse w s r ≡ true → recoveryAt w s r ≡ xorContents (w .p) t (groupAt w s r)
+  pub media : (i : ℕ) → i < w .n → markAt s i ≡ 1 → contentAt w s i ≡ contentSent w t i
+  pub parity : (r : ℕ) → r < rows w → inUse w s r ≡ true → recoveryAt w s r ≡ recoverySent w t (groupAt w s r)
 
 -- a window value and a store to start from: refusals 1 to 5 let them pass
 pub record Start (w : Window) (t : Stretch) (s : Store) : Type 0 where
@@ -84,7 +84,7 @@ SameSetUp v w = v ≡ recount w (v .present) (v .«in_use»)
 -- what the list leaves: the set-up numbers as they were, demand 3 with what the store held counted as received, and a start for the next list
 pub record Reached (x : Outcome) (t : Stretch) (offers : List Offer) (y : Outcome) : Type 0 where
   pub set-up : SameSetUp (y .window) (x .window)
-  pub demand : Demand3 (x .window) t (receivedFrom (x .window) (x .store) offers) (y .store)
+  pub demand : Demand3 (x .window) t (receivedFrom (x .window) (x .store) offers) (answers x offers) (y .store)
   pub start : Start (y .window) t (y .store)
 
 -- demand 3 of any list from any start that a call left

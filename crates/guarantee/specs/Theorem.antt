@@ -6,71 +6,73 @@ use mathlib.Core.Bool.{Bool, true, false, _&&_, true≢false}
 use mathlib.Core.List.{List, [], _∷_, _++_, map, List·Memᴰ, List·Memᴰ·head, List·Memᴰ·tail}
 use Prim.Native.Nat.{ℕ, _<_, _≤_}
 use native.Mathlib.Omega.{arith}
-use lib.ListN.{length}
+use lib.ListN.{length, take}
 use lib.Dec.{ltb}
 use borrow.Author.Tests.{eqb-true, lt-ltb, ltb-true}
+use Rattle.answer.specs.declared.Answer.{Answer}
+use Rattle.answer.specs.Number.{spoiltOf}
 use Rattle.sequence.specs.Lists.{and-split as both}
 use Rattle.sequence.specs.Wrap.{numberAt}
 use Rattle.rtp.specs.Fec.{column, row, snbase}
 use Rattle.window.specs.declared.Window.{Window}
 use Rattle.window.specs.Limits.{width, parityRoom}
-use Rattle.window.specs.Store.{Store}
+use Rattle.window.specs.Store.{Store, lengthAt, payloadAt}
 use Rattle.window.specs.Group.{group, inside, isMissing}
-use Rattle.calls.specs.Content.{Content, xorContents, contentAt, recoveryAt}
+use Rattle.calls.specs.Content.{Recovery, contentAt, recoveryAt}
 use Rattle.calls.specs.State.{recount}
 use Rattle.calls.specs.Call.{Outcome, standingTests, asked, cleared, opened}
 use Rattle.calls.specs.Passed.{none-first}
 use Rattle.peel.specs.Peel as Theory
 use Rattle.peel.specs.Rest.{Still}
-use Rattle.peel.specs.Theorem.{right, stopping, missing-iff, same, run-inv}
+use Rattle.peel.specs.Theorem.{right, stopping, missing-iff, same, run-inv, never-spoilt}
 use Rattle.guarantee.specs.Ranges.{decide, keep-ext, count-keep}
 use Rattle.guarantee.specs.Packets.{Packet, packet-content}
-use Rattle.guarantee.specs.View.{Limits, groupOf, group-lt, code, checkAt, packetAt, view, slot-present, miss-mark, Good, content-whole, recovery-whole, mark-one}
+use Rattle.guarantee.specs.Lengths.{padded-front, units-le}
+use Rattle.guarantee.specs.View.{Limits, groupOf, group-lt, code, checkAt, packetAt, view, slot-present, miss-mark, Good, content-whole, mark-one}
 use Rattle.guarantee.specs.Recount.{fills-on, holds-on, unaltered-on}
 use Rattle.guarantee.specs.Order.{limits, stands}
 use Rattle.guarantee.specs.Accepted.{rests}
-use Rattle.guarantee.specs.Fine.{Goes}
-use Rattle.guarantee.specs.Demand3.{Port, mediaPort, columnPort, rowPort, Offer, offered, run, Stretch, Fills, UnalteredOn, Unaltered, Name, mediaName, nameOn, namesOf, Received, groupNamed, distinctGroups, Given, markAt, Hidden, Demand3, Claim, SamePackets, ClaimSame}
+use Rattle.guarantee.specs.Demand3.{Port, mediaPort, columnPort, rowPort, Offer, offered, run, answers, Stretch, Fills, contentSent, UnalteredOn, Unaltered, Name, mediaName, nameOn, namesOf, Received, groupNamed, distinctGroups, Given, markAt, Hidden, Demand3, Claim, SamePackets, ClaimSame}
 use Rattle.guarantee.specs.Start.{Holds, Start, heldAnd, every, counted, receivedFrom, GivenFrom, ClaimFrom, ClaimSameFrom, ClaimChain}
-use Rattle.guarantee.specs.Sent.{sent, seen, parity-read, recovery-size, recovery-sum}
-use Rattle.guarantee.specs.Names.{Got, got-unaltered, media-in, check-in, in-media, in-check}
-use Rattle.guarantee.specs.Run.{Ready, ready-at, arrives}
+use Rattle.guarantee.specs.Sent.{sent, seen, sent-whole, parity-read}
+use Rattle.guarantee.specs.Names.{Got, got-check, got-unaltered, media-in, check-in, in-media, in-check}
+use Rattle.guarantee.specs.Run.{Arrived, Ready, ready-at, arrives}
 use Rattle.guarantee.specs.Opening.{opening, opened-start, none-held}
 
 -- ---- what holds after a run
 
 module _ {w : Window} {a u : ℕ} {s : Store} {t : Stretch} {offers : List Offer} (R : Ready w a u s t offers) {D : List (ℕ × ℕ)} {y : Outcome}
-    (arrived : Goes w D (map (seen w) (counted w offers)) s y) where
+    {answered : List Answer} (arrived : Arrived w D (map (seen w) (counted w offers)) s answered y) where
   -- the window is within its limits
   L : Limits w
   L = limits w (R .within .based) (R .within .faultless)
 
   -- what was received is unaltered
-  unaltered : (p : Theory.Offer (ℕ × ℕ) Content Packet) → Got w s (counted w offers) p → Theory.Unaltered (code w) (sent t) p
+  unaltered : (p : Theory.Offer (ℕ × ℕ) Recovery Packet) → Got w s (counted w offers) p → Theory.Unaltered (code w) (sent w t) p
   unaltered = got-unaltered L (R .fills) (R .ordered .good) (R .unaltered) (R .holds)
 
   -- nothing of it was lost
   inv : Theory.Inv (code w) (Got w s (counted w offers)) (view w (y .store))
-  inv = run-inv (code w) (sent t) unaltered (arrived .runs)
+  inv = run-inv (code w) (sent w t) unaltered (arrived .runs)
+
+  -- and no answer counts a check as spoilt
+  unspoilt : (a : Answer) → List·Memᴰ a answered → spoiltOf a ≡ 0
+  unspoilt a m = ⊎-elim (λ e. e) (λ b. absurd (never-spoilt (code w) (sent w t) unaltered b)) (arrived .clear a m)
 
   -- what is present is what was sent
-  present-sent : (i : ℕ) → i < w .n → markAt (y .store) i ≡ 1 → contentAt w (y .store) i ≡ t i
+  present-sent : (i : ℕ) → i < w .n → markAt (y .store) i ≡ 1 → contentAt w (y .store) i ≡ contentSent w t i
   present-sent i h e =
       let n : isMissing (y .store .marks) i ≡ false = rw e in
-      packet-content (contentAt w (y .store) i) (t i) (content-whole (arrived .fine .order .good) i h) (R .fills .size i h)
-      (right (code w) (sent t) (inv .sound) unaltered i (packetAt w (y .store) i) (slot-present w (y .store) i h n))
+      packet-content (contentAt w (y .store) i) (contentSent w t i) (content-whole w (y .store) i) (sent-whole w t i)
+      (right (code w) (sent w t) (inv .sound) unaltered i (packetAt w (y .store) i) (slot-present w (y .store) i h n))
 
   -- and all that the store holds is unaltered again
   holds-again : Holds w t (y .store)
   holds-again = record {
     media = present-sent;
     parity = λ r h e. let k = checkAt (y .store) r in
-        let c = recoveryAt w (y .store) r in
-        let i = arrived .fine .order .good .shaped r h e .within in
-        let m : Got w s (counted w offers) (Theory.check k c) = inv .sound .kept k c (record { at = r; below = h; used = e; names = refl; carries = refl }) in
-        packet-content c (xorContents (w .p) t (groupOf w k))
-        (recovery-whole (arrived .fine .order .good) r h) (recovery-size (R .fills) k i)
-        (unaltered (Theory.check k c) m .0 ∙ sym (recovery-sum (R .fills) k i));
+        let v = recoveryAt w (y .store) r in
+        got-check L (R .fills) (R .ordered .good) (R .unaltered) (R .holds) k v (inv .sound .kept k v (record { at = r; below = h; used = e; names = refl; carries = refl }));
   }
 
   -- so it is a start, with the counts that it has then
@@ -116,10 +118,11 @@ module _ {w : Window} {a u : ℕ} {s : Store} {t : Stretch} {offers : List Offer
         inner stream snbase h i m = rw (lt-ltb i (w .n) (group-lt w stream snbase h i m))
 
     -- demand 3
-    conclusions : Demand3 w t (receivedFrom w s offers) (y .store)
+    conclusions : Demand3 w t (receivedFrom w s offers) answered (y .store)
     conclusions = record {
       mark = λ i h. ⊎-elim (λ e. inl (eqb-true (markAt (y .store) i) 0 e)) (λ e. inr (mark-one (arrived .fine .order .good) i h e)) (decide (isMissing (y .store .marks) i));
       present = present-sent;
+      unspoilt = unspoilt;
       missing = λ i h. (
         λ e. (λ j. ltb j (w .n) && Theory.miss (view w (y .store)) j, missing-hidden, rw (lt-ltb i (w .n) h, miss-mark w (y .store) i h, e)),
         λ q. eqb-true (markAt (y .store) i) 0 (sym (miss-mark w (y .store) i h) ∙ missing-iff (code w) inv still i .1 (q .0, hidden-stopping (q .0) (q .1), q .2)),
@@ -184,10 +187,10 @@ demand3-same-from x y t u offers others G H e names i h = go (conclusions R A (a
     Q : Ready w (y .window .present) (y .window .«in_use») (y .store) u others
     Q = ready-at w (y .window .present) (y .window .«in_use») y e H
 
-    A : Goes w (distinctGroups (receivedFrom w (x .store) offers)) (map (seen w) (counted w offers)) (x .store) (run x offers)
+    A : Arrived w (distinctGroups (receivedFrom w (x .store) offers)) (map (seen w) (counted w offers)) (x .store) (answers x offers) (run x offers)
     A = arrives x refl R
 
-    B : Goes w (distinctGroups (receivedFrom w (y .store) others)) (map (seen w) (counted w others)) (y .store) (run y others)
+    B : Arrived w (distinctGroups (receivedFrom w (y .store) others)) (map (seen w) (counted w others)) (y .store) (answers y others) (run y others)
     B = arrives y e Q
 
     packets : SamePackets (receivedFrom w (x .store) offers) (receivedFrom w (y .store) others)
@@ -241,9 +244,9 @@ pub demand3 : Claim
 demand3 base ssrc l d p n k lent t offers G =
     let w : Window = asked base ssrc l d p n k in
     let e = opening w lent (G .fresh) in
-    let z : Demand3 (opened w lent .window) t (receivedFrom (opened w lent .window) (opened w lent .store) offers) (run (opened w lent) offers .store) =
+    let z : Demand3 (opened w lent .window) t (receivedFrom (opened w lent .window) (opened w lent .store) offers) (answers (opened w lent) offers) (run (opened w lent) offers .store) =
     demand3-from (opened w lent) t offers (given-from refl refl G) .demand in
-    rw (← received-list refl refl G) (subst (λ x. Demand3 (x .window) t (receivedFrom (x .window) (x .store) offers) (run (opened w lent) offers .store)) (e .1) z)
+    rw (← received-list refl refl G) (subst (λ x. Demand3 (x .window) t (receivedFrom (x .window) (x .store) offers) (answers (opened w lent) offers) (run (opened w lent) offers .store)) (e .1) z)
 
 -- demand 3, of two lists
 pub demand3-same : ClaimSame
@@ -257,6 +260,13 @@ demand3-same base ssrc l d p n k lent other t u offers others G H names i h =
     (rw (a, b) names) i (rw (e .1) h)
 
 -- so a media packet that was received is present
-pub received-present : {w : Window} {t : Stretch} {received : List Name} {s : Store} → Demand3 w t received s
+pub received-present : {w : Window} {t : Stretch} {received : List Name} {answered : List Answer} {s : Store} → Demand3 w t received answered s
     → (i : ℕ) → i < w .n → Received received (mediaName (numberAt width (w .base) i)) → markAt s i ≡ 1
 received-present A i h m = ⊎-elim (λ e. let q = A .missing i h .0 e in absurd (q .1 .unreceived i (q .2) m)) (λ e. e) (A .mark i h)
+
+-- and a packet that is present has the payload that was sent, at its true length
+pub payload-sent : {w : Window} {t : Stretch} {received : List Name} {answered : List Answer} {s : Store} → Fills w t → Demand3 w t received answered s
+    → (i : ℕ) → i < w .n → markAt s i ≡ 1 → take (lengthAt s i) (payloadAt w s i) ≡ t i .payload
+payload-sent {w} {t} F A i h e =
+    let q = A .present i h e in
+    ap (λ c. take (c .length) (c .payload)) q ∙ padded-front (w .p) (t i .payload) (units-le (w .p) (w .p) (length (t i .payload)) (F .size i h))

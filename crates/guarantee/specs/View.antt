@@ -10,19 +10,21 @@ use lib.Dec.{eqb, ltb}
 use borrow.Author.Tests.{eqb-false, ltb-true, lt-ltb}
 use Rattle.sequence.specs.Lists.{upTo, count}
 use Rattle.rtp.specs.Faults.{noRow}
+use Rattle.rtp.specs.Length.{goodLength}
 use Rattle.window.specs.declared.Window.{Window}
 use Rattle.window.specs.Limits.{width, rows}
 use Rattle.window.specs.Bounds.{SetUp, Sized}
 use Rattle.window.specs.Plain.{inside-of, group-once}
-use Rattle.window.specs.Store.{Store, recordAt}
+use Rattle.window.specs.Store.{Store, lengthAt, recordAt}
 use Rattle.window.specs.Group.{group, inside, isMissing, missing}
 use Rattle.window.specs.Order.{isPresent, inUse, missingAt}
-use Rattle.calls.specs.Content.{Content, contentAt, recoveryAt}
+use Rattle.calls.specs.Content.{Recovery, contentAt, recoveryAt, fits}
 use Rattle.xor.specs.Laws.{packet}
 use Rattle.peel.specs.Peel.{Code, View, gone, miss}
 use Rattle.peel.specs.Group as Peel
 use Rattle.guarantee.specs.Ranges.{all-of, count-keep, keep-ext}
-use Rattle.guarantee.specs.Packets.{Whole, Packet, xored, zeros, packetOf, length-part}
+use Rattle.guarantee.specs.Packets.{Whole, Packet, xored, zeros, packetOf, contentFrom}
+use Rattle.guarantee.specs.Parts.{length-part}
 
 -- ---- a window within its limits, and the groups in it
 
@@ -35,9 +37,17 @@ pub record Limits (w : Window) : Type 0 where
 abbrev pub groupOf : Window → ℕ × ℕ → List ℕ
 groupOf w k = group w (k .0) (k .1)
 
--- the parity of a window, as the theory has it: whatever is rebuilt fits
-abbrev pub code : Window → Code (ℕ × ℕ) Content Packet
-code w = record { group = groupOf w; value = packetOf; fits = λ c x. true; xor = xored; zeros = zeros; laws = packet }
+-- the parity of a window, as the theory has it
+abbrev pub code : Window → Code (ℕ × ℕ) Recovery Packet
+code w =
+    record {
+      group = groupOf w;
+      value = λ v. packetOf (v .content);
+      fits = λ v x. fits w v (contentFrom (w .p) x);
+      xor = xored;
+      zeros = zeros;
+      laws = packet;
+    }
 
 -- the check that a record names
 abbrev pub checkAt : Store → ℕ → ℕ × ℕ
@@ -72,15 +82,15 @@ unfoldable pub slotAt : Window → Store → ℕ → Option Packet
 slotAt w s i = cond (ltb i (w .n) && not (isMissing (s .marks) i)) (some (packetAt w s i)) none
 
 -- a check in hand: a record in use that names it and holds its recovery
-pub record Held (w : Window) (s : Store) (k : ℕ × ℕ) (c : Content) : Type 0 where
+pub record Held (w : Window) (s : Store) (k : ℕ × ℕ) (v : Recovery) : Type 0 where
   pub at : ℕ
   pub below : at < rows w
   pub used : inUse w s at ≡ true
   pub names : checkAt s at ≡ k
-  pub carries : recoveryAt w s at ≡ c
+  pub carries : recoveryAt w s at ≡ v
 
 -- the store as the theory sees it
-abbrev pub view : Window → Store → View (ℕ × ℕ) Content Packet
+abbrev pub view : Window → Store → View (ℕ × ℕ) Recovery Packet
 view w s = record { slot = slotAt w s; held = Held w s }
 
 module _ (w : Window) (s : Store) (i : ℕ) where
@@ -131,8 +141,10 @@ miss-count w s g h = count-keep (miss (view w s)) g ∙ ap length (keep-ext (mis
 pub record Good (w : Window) (a u : ℕ) (s : Store) : Type 0 where
   pub fits : Sized w s
   pub mark : (i : ℕ) → i < w .n → getD (s .marks) i 0 ≤ 1
+  pub long : (i : ℕ) → i < w .n → isPresent (s .marks) i ≡ true → goodLength (w .p) (lengthAt s i) ≡ true
   pub use-mark : (r : ℕ) → r < rows w → recordAt s r .«in_use» ≤ 1
   pub shaped : (r : ℕ) → r < rows w → inUse w s r ≡ true → Shaped w (checkAt s r)
+  pub sized : (r : ℕ) → r < rows w → inUse w s r ≡ true → goodLength (w .p) (recordAt s r .«payload_length») ≡ true
   pub apart : (q r : ℕ) → q < rows w → r < rows w → inUse w s q ≡ true → inUse w s r ≡ true → checkAt s q ≡ checkAt s r → q ≡ r
   pub presents : a ≡ count (isPresent (s .marks)) (upTo (w .n))
   pub in-use : u ≡ count (inUse w s) (upTo (rows w))
@@ -142,18 +154,18 @@ pub record Missing (m : ℕ) (w : Window) (s : Store) : Type 0 where
   pub least : (r : ℕ) → r < rows w → inUse w s r ≡ true → m ≤ length (missingAt w s r)
 
 -- what is kept at a position has P bytes
-pub content-whole : {w : Window} {a u : ℕ} {s : Store} → Good w a u s → (i : ℕ) → i < w .n → Whole (w .p) (contentAt w s i)
-content-whole {w} {s = s} G i h = length-part (s .media) i (w .n) (w .p) h (G .fits .media-long)
+pub content-whole : (w : Window) (s : Store) (i : ℕ) → Whole (w .p) (contentAt w s i)
+content-whole w s i = length-part (w .p) (s .media) (lengthAt s i) i
 
 -- and so has what a record holds
-pub recovery-whole : {w : Window} {a u : ℕ} {s : Store} → Good w a u s → (r : ℕ) → r < rows w → Whole (w .p) (recoveryAt w s r)
-recovery-whole {w} {s = s} G r h = length-part (s .parity) r (rows w) (w .p) h (G .fits .parity-long)
+pub recovery-whole : (w : Window) (s : Store) (r : ℕ) → Whole (w .p) (recoveryAt w s r .content)
+recovery-whole w s r = length-part (w .p) (s .parity) (recordAt s r .«payload_length») r
 
 -- a mark that is not 0 is 1
 pub mark-one : {w : Window} {a u : ℕ} {s : Store} → Good w a u s → (i : ℕ) → i < w .n → isMissing (s .marks) i ≡ false → getD (s .marks) i 0 ≡ 1
 mark-one {s = s} G i h e = let z = G .mark i h in let n = eqb-false (getD (s .marks) i 0) 0 e in omega arith
 
 -- of a check in hand, as many members are missing in the view as of its record's group
-pub held-count : {w : Window} {a u : ℕ} {s : Store} → Good w a u s → {k : ℕ × ℕ} {c : Content} (h : Held w s k c)
+pub held-count : {w : Window} {a u : ℕ} {s : Store} → Good w a u s → {k : ℕ × ℕ} {v : Recovery} (h : Held w s k v)
     → Peel.count (miss (view w s)) (groupOf w k) ≡ length (missingAt w s (h .at))
 held-count {w} {s = s} G h = rw (← h .names) (miss-count w s (groupOf w (checkAt s (h .at))) (member-lt (G .shaped (h .at) (h .below) (h .used))))

@@ -2,10 +2,10 @@
 use mathlib.Core.Path.{_≡_, refl, sym, ap, _∙_}
 use mathlib.Core.Bool.{Bool, true, false, not, _&&_}
 use mathlib.Core.List.{List}
-use Prim.Native.Nat.{ℕ, _+_, _*_, _^_, _<_, _≤_}
+use Prim.Native.Nat.{ℕ, _+_, _*_, _-_, _^_, _<_, _≤_}
 use native.Mathlib.Omega.{arith}
 use lib.Dec.{eqb, leb, ltb}
-use lib.ListN.{length, getD, take, drop}
+use lib.ListN.{length, getD, take, drop, length-drop}
 use borrow.Author.Tests.{lt-ltb, le-ltb, eq-eqb, ne-eqb, not-true, not-false, ltb-true, le-leb}
 use Rattle.answer.specs.First.{first, first-hit, first-past, first-end}
 use Rattle.xor.specs.Same.{same}
@@ -15,16 +15,18 @@ use Rattle.rtp.specs.Fec.{snbase}
 use Rattle.window.specs.declared.Record.{Record}
 use Rattle.window.specs.declared.Window.{Window}
 use Rattle.window.specs.Limits.{width, leastMissing}
-use Rattle.window.specs.Store.{Store, stored, timestampAt, payloadAt}
+use Rattle.window.specs.Store.{Store, stored, timestampAt, lengthAt}
 use Rattle.window.specs.Bounds.{SetUp}
 use Rattle.window.specs.Group.{position, group, inside, isMissing, missing}
 use Rattle.window.specs.Plain.{Inside, inside-of}
-use Rattle.calls.specs.Call.{mediaPlaceTests, parityPlaceTests, holds, holdsSame}
+use Rattle.calls.specs.Call.{mediaPlaceTests, parityPlaceTests, sameContent, contentAt, holds, holdsSame}
+use Rattle.calls.specs.Accept.{contentOf}
+use Rattle.xor.specs.Xor.{padded}
 use Rattle.table.specs.View.{Row, scatter}
 use Rattle.table.specs.Apart.{Fits}
 use Rattle.offer.specs.declared.Placed.{Placed}
-use Rattle.offer.specs.Rows.{rowHolds, rowSame, Found}
-use Rattle.offer.proofs.Tests.{rest-is}
+use Rattle.offer.specs.Rows.{Fitting, rowHolds, rowSame, Found}
+use Rattle.offer.proofs.Tests.{rest-same}
 use Rattle.offer.proofs.Scans.{same-rows, holds-rows}
 
 -- ---- media
@@ -41,58 +43,78 @@ module _ (w : Window) (g : List ℕ) (s : Store) (i : ℕ) (e : i ≡ position w
         let l : isMissing (s .marks) (position w (sequenceNumber g)) ≡ true = eq-eqb _ 0 (rw e at m) in
         past-13 0 (first-past 0 14 _ _ (rw l) (first-past 0 15 _ _ (ap not l) first-end))
 
-    module _ (ts : ℕ) (is : Bool) (m : getD (s .marks) i 0 ≡ 0 → ⊥) (et : ts ≡ timestamp g) (es : is ≡ same (take (w .p) (drop (i * w .p) (s .media))) (take (w .p) (drop rtpHeaderSize g))) (long : length g ≡ rtpHeaderSize + w .p) where
+    module _ (m : getD (s .marks) i 0 ≡ 0 → ⊥) where
       held : not (isMissing (s .marks) (position w (sequenceNumber g))) ≡ true
       held = ap not (ne-eqb _ 0 (λ z. m (ap (λ (k : ℕ). getD (s .marks) k 0) e ∙ z)))
 
-      alike : (eqb (getD (s .timestamps) i 0) ts && is) ≡ (eqb (timestampAt s (position w (sequenceNumber g))) (timestamp g) && same (payloadAt w s (position w (sequenceNumber g))) (drop rtpHeaderSize g))
-      alike = rw (es, et, rest-is rtpHeaderSize (w .p) g long, e)
+      -- another length
+      pub otherwise-long : (getD (s .lengths) i 0 ≡ length g - rtpHeaderSize → ⊥) → 15 ≡ first (mediaPlaceTests w g s)
+      otherwise-long d =
+          let f : eqb (lengthAt s (position w (sequenceNumber g))) (length (drop rtpHeaderSize g)) ≡ false = ne-eqb _ _ (λ z. d (ap (λ (k : ℕ). getD (s .lengths) k 0) e ∙ z ∙ length-drop rtpHeaderSize g)) in
+          past-13 15 (first-past 15 14 _ _ (rw (held, f) (none (eqb (timestampAt s (position w (sequenceNumber g))) (timestamp g)) _)) (first-hit 15 _ _ held))
+        where
+          none : (b x : Bool) → (b && false && x) ≡ false
+          none true x = refl
+          none false x = refl
 
-      pub repeated : (eqb (getD (s .timestamps) i 0) ts && is) ≡ true → 14 ≡ first (mediaPlaceTests w g s)
-      repeated t = past-13 14 (first-hit 14 _ _ (rw (held, ← alike, t)))
+      module _ (ts : ℕ) (is : Bool) (et : ts ≡ timestamp g) (el : getD (s .lengths) i 0 ≡ length g - rtpHeaderSize)
+          (es : is ≡ same (take (length g - rtpHeaderSize) (drop (i * w .p) (s .media))) (take (length g - rtpHeaderSize) (drop rtpHeaderSize g))) (fitting : Fitting rtpHeaderSize (w .p) g) (room : i * w .p + w .p ≤ length (s .media)) where
+        alike : (eqb (getD (s .timestamps) i 0) ts && is) ≡ sameContent (contentAt w s (position w (sequenceNumber g))) (contentOf (w .p) g)
+        alike =
+            let same-length : eqb (getD (s .lengths) i 0) (length (drop rtpHeaderSize g)) ≡ true = eq-eqb _ _ (el ∙ sym (length-drop rtpHeaderSize g)) in
+            let payloads : is ≡ same (padded (w .p) (take (getD (s .lengths) i 0) (drop (i * w .p) (s .media)))) (padded (w .p) (drop rtpHeaderSize g)) =
+            es ∙ sym (rest-same rtpHeaderSize (w .p) (i * w .p) (s .media) g fitting room) ∙ ap (λ (n : ℕ). same (padded (w .p) (take n (drop (i * w .p) (s .media)))) (padded (w .p) (drop rtpHeaderSize g))) (sym el) in
+            rw (← e, same-length, payloads, et) (and-on (eqb (getD (s .timestamps) i 0) (timestamp g)) (same (padded (w .p) (take (getD (s .lengths) i 0) (drop (i * w .p) (s .media)))) (padded (w .p) (drop rtpHeaderSize g))))
+          where
+            and-on : (a b : Bool) → (a && b) ≡ (a && true && b)
+            and-on true b = refl
+            and-on false b = refl
 
-      pub differs : (eqb (getD (s .timestamps) i 0) ts && is) ≡ false → 15 ≡ first (mediaPlaceTests w g s)
-      differs t = past-13 15 (first-past 15 14 _ _ (rw (held, ← alike, t)) (first-hit 15 _ _ held))
+        pub repeated : (eqb (getD (s .timestamps) i 0) ts && is) ≡ true → 14 ≡ first (mediaPlaceTests w g s)
+        repeated t = past-13 14 (first-hit 14 _ _ (rw (held, ← alike, t)))
+
+        pub differs : (eqb (getD (s .timestamps) i 0) ts && is) ≡ false → 15 ≡ first (mediaPlaceTests w g s)
+        differs t = past-13 15 (first-past 15 14 _ _ (rw (held, ← alike, t)) (first-hit 15 _ _ held))
 
 -- ---- parity
 module _ (w : Window) (stream : ℕ) (g marks parity : List ℕ) (hs : List Row) (m : ℕ) (long : length hs ≡ m) (b : ℕ) (eb : b ≡ snbase g) where
   -- the tests over a table
-  abbrev tests : List ℕ → List ℕ → List Record → List (ℕ × Bool)
-  tests media timestamps t = parityPlaceTests w stream g (stored media timestamps marks parity (scatter hs t))
+  abbrev tests : List ℕ → List ℕ → List ℕ → List Record → List (ℕ × Bool)
+  tests media timestamps lengths t = parityPlaceTests w stream g (stored media timestamps lengths marks parity (scatter hs t))
 
   -- a number that refuses
   abbrev no : ℕ → Placed
   no n = record { fault = n; missing = 0 }
 
-  refuses : (n : ℕ) → (n ≡ 0 → ⊥) → ((media timestamps : List ℕ) (t : List Record) → Fits t (w .k) hs → n ≡ first (tests media timestamps t)) → Found w stream g marks parity hs (no n)
+  refuses : (n : ℕ) → (n ≡ 0 → ⊥) → ((media timestamps lengths : List ℕ) (t : List Record) → Fits t (w .k) hs → n ≡ first (tests media timestamps lengths t)) → Found w stream g marks parity hs (no n)
   refuses n h is = record { is = is; inside = λ z. absurd (h z); counted = λ z. absurd (h z); room = λ z. absurd (h z) }
 
   pub no-13 : inside w stream b ≡ false → Found w stream g marks parity hs (no 13)
-  no-13 e = refuses 13 (λ z. omega arith) (λ media timestamps t f. first-hit 13 _ _ (ap (λ (n : ℕ). not (inside w stream n)) (sym eb) ∙ ap not e))
+  no-13 e = refuses 13 (λ z. omega arith) (λ media timestamps lengths t f. first-hit 13 _ _ (ap (λ (n : ℕ). not (inside w stream n)) (sym eb) ∙ ap not e))
 
   module _ (i : inside w stream b ≡ true) (same : Bool) (es : same ≡ any (rowSame (w .p) parity hs stream g) (upTo m)) where
-    beyond-13 : (media timestamps : List ℕ) (t : List Record) (r : ℕ) → r ≡ first (drop 1 (tests media timestamps t)) → r ≡ first (tests media timestamps t)
-    beyond-13 media timestamps t r k = first-past r 13 _ _ (ap (λ (n : ℕ). not (inside w stream n)) (sym eb) ∙ ap not i) k
+    beyond-13 : (media timestamps lengths : List ℕ) (t : List Record) (r : ℕ) → r ≡ first (drop 1 (tests media timestamps lengths t)) → r ≡ first (tests media timestamps lengths t)
+    beyond-13 media timestamps lengths t r k = first-past r 13 _ _ (ap (λ (n : ℕ). not (inside w stream n)) (sym eb) ∙ ap not i) k
 
-    same-is : (media timestamps : List ℕ) (t : List Record) → Fits t (w .k) hs → any (holdsSame w (stored media timestamps marks parity (scatter hs t)) stream g) (upTo (w .k)) ≡ same
-    same-is media timestamps t f = same-rows w stream g media timestamps marks parity hs t f ∙ ap (λ (n : ℕ). any (rowSame (w .p) parity hs stream g) (upTo n)) long ∙ sym es
+    same-is : (media timestamps lengths : List ℕ) (t : List Record) → Fits t (w .k) hs → any (holdsSame w (stored media timestamps lengths marks parity (scatter hs t)) stream g) (upTo (w .k)) ≡ same
+    same-is media timestamps lengths t f = same-rows w stream g media timestamps lengths marks parity hs t f ∙ ap (λ (n : ℕ). any (rowSame (w .p) parity hs stream g) (upTo n)) long ∙ sym es
 
     pub no-14 : same ≡ true → Found w stream g marks parity hs (no 14)
-    no-14 e = refuses 14 (λ z. omega arith) (λ media timestamps t f. beyond-13 media timestamps t 14 (first-hit 14 _ _ (same-is media timestamps t f ∙ e)))
+    no-14 e = refuses 14 (λ z. omega arith) (λ media timestamps lengths t f. beyond-13 media timestamps lengths t 14 (first-hit 14 _ _ (same-is media timestamps lengths t f ∙ e)))
 
     module _ (other : same ≡ false) (held : Bool) (eh : held ≡ any (rowHolds hs stream b) (upTo m)) where
-      beyond-14 : (media timestamps : List ℕ) (t : List Record) → Fits t (w .k) hs → (r : ℕ) → r ≡ first (drop 2 (tests media timestamps t)) → r ≡ first (tests media timestamps t)
-      beyond-14 media timestamps t f r k = beyond-13 media timestamps t r (first-past r 14 _ _ (same-is media timestamps t f ∙ other) k)
+      beyond-14 : (media timestamps lengths : List ℕ) (t : List Record) → Fits t (w .k) hs → (r : ℕ) → r ≡ first (drop 2 (tests media timestamps lengths t)) → r ≡ first (tests media timestamps lengths t)
+      beyond-14 media timestamps lengths t f r k = beyond-13 media timestamps lengths t r (first-past r 14 _ _ (same-is media timestamps lengths t f ∙ other) k)
 
-      held-is : (media timestamps : List ℕ) (t : List Record) → Fits t (w .k) hs → any (holds w (stored media timestamps marks parity (scatter hs t)) stream (snbase g)) (upTo (w .k)) ≡ held
-      held-is media timestamps t f = holds-rows w stream (snbase g) media timestamps marks parity hs t f ∙ ap (λ (n : ℕ). any (rowHolds hs stream (snbase g)) (upTo n)) long ∙ ap (λ (n : ℕ). any (rowHolds hs stream n) (upTo m)) (sym eb) ∙ sym eh
+      held-is : (media timestamps lengths : List ℕ) (t : List Record) → Fits t (w .k) hs → any (holds w (stored media timestamps lengths marks parity (scatter hs t)) stream (snbase g)) (upTo (w .k)) ≡ held
+      held-is media timestamps lengths t f = holds-rows w stream (snbase g) media timestamps lengths marks parity hs t f ∙ ap (λ (n : ℕ). any (rowHolds hs stream (snbase g)) (upTo n)) long ∙ ap (λ (n : ℕ). any (rowHolds hs stream n) (upTo m)) (sym eb) ∙ sym eh
 
       pub no-15 : held ≡ true → Found w stream g marks parity hs (no 15)
-      no-15 e = refuses 15 (λ z. omega arith) (λ media timestamps t f. beyond-14 media timestamps t f 15 (first-hit 15 _ _ (held-is media timestamps t f ∙ e)))
+      no-15 e = refuses 15 (λ z. omega arith) (λ media timestamps lengths t f. beyond-14 media timestamps lengths t f 15 (first-hit 15 _ _ (held-is media timestamps lengths t f ∙ e)))
 
       module _ (new : held ≡ false) (lacks : ℕ) (el : lacks ≡ length (missing marks (group w stream b))) where
-        beyond-15 : (media timestamps : List ℕ) (t : List Record) → Fits t (w .k) hs → (r : ℕ) → r ≡ first (drop 3 (tests media timestamps t)) → r ≡ first (tests media timestamps t)
-        beyond-15 media timestamps t f r k = beyond-14 media timestamps t f r (first-past r 15 _ _ (held-is media timestamps t f ∙ new) k)
+        beyond-15 : (media timestamps lengths : List ℕ) (t : List Record) → Fits t (w .k) hs → (r : ℕ) → r ≡ first (drop 3 (tests media timestamps lengths t)) → r ≡ first (tests media timestamps lengths t)
+        beyond-15 media timestamps lengths t f r k = beyond-14 media timestamps lengths t f r (first-past r 15 _ _ (held-is media timestamps lengths t f ∙ new) k)
 
         lacks-is : length (missing marks (group w stream (snbase g))) ≡ lacks
         lacks-is = ap (λ (n : ℕ). length (missing marks (group w stream n))) (sym eb) ∙ sym el
@@ -101,11 +123,11 @@ module _ (w : Window) (stream : ℕ) (g marks parity : List ℕ) (hs : List Row)
         full-is = ap (λ (n : ℕ). leb leastMissing n && not (ltb (w .«in_use») (w .k))) lacks-is
 
         pub no-16 : (leb leastMissing lacks && not (ltb (w .«in_use») (w .k))) ≡ true → Found w stream g marks parity hs (no 16)
-        no-16 e = refuses 16 (λ z. omega arith) (λ media timestamps t f. beyond-15 media timestamps t f 16 (first-hit 16 _ _ (full-is ∙ e)))
+        no-16 e = refuses 16 (λ z. omega arith) (λ media timestamps lengths t f. beyond-15 media timestamps lengths t f 16 (first-hit 16 _ _ (full-is ∙ e)))
 
         pub none-of-them : w .base < 2 ^ width → SetUp w → (leb leastMissing lacks && not (ltb (w .«in_use») (w .k))) ≡ false → Found w stream g marks parity hs (record { fault = 0; missing = lacks })
         none-of-them based u e = record {
-          is = λ media timestamps t f. beyond-15 media timestamps t f 0 (first-past 0 16 _ _ (full-is ∙ e) first-end);
+          is = λ media timestamps lengths t f. beyond-15 media timestamps lengths t f 0 (first-past 0 16 _ _ (full-is ∙ e) first-end);
           inside = λ _. inside-of w based u stream (snbase g) (ap (inside w stream) (sym eb) ∙ i);
           counted = λ _. sym lacks-is;
           room = λ _ l. ltb-true (w .«in_use») (w .k) (not-false (ltb (w .«in_use») (w .k)) (past (leb leastMissing lacks) (not (ltb (w .«in_use») (w .k))) (le-leb leastMissing lacks l) e));

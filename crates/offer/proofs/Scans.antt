@@ -18,14 +18,14 @@ use Rattle.order.proofs.Agree.{any-same}
 use Rattle.offer.specs.Rows.{rowHolds, rowSame}
 
 module _ (w : Window) (stream : ℕ) where
-  pub holds-rows : (b : ℕ) (media timestamps marks parity : List ℕ) (hs : List Row) (t : List Record) (f : Fits t (w .k) hs)
-      → any (holds w (stored media timestamps marks parity (scatter hs t)) stream b) (upTo (w .k)) ≡ any (rowHolds hs stream b) (upTo (length hs))
-  holds-rows b media timestamps marks parity hs t f =
-      any-rows (holds w (stored media timestamps marks parity (scatter hs t)) stream b) f (λ r l e. rw e)
-      ∙ any-same (λ i. holds w (stored media timestamps marks parity (scatter hs t)) stream b (slotAt hs i)) (rowHolds hs stream b) (length hs) (λ i l. rw (get-scatter (f .apart) (f .enough) i l))
+  pub holds-rows : (b : ℕ) (media timestamps lengths marks parity : List ℕ) (hs : List Row) (t : List Record) (f : Fits t (w .k) hs)
+      → any (holds w (stored media timestamps lengths marks parity (scatter hs t)) stream b) (upTo (w .k)) ≡ any (rowHolds hs stream b) (upTo (length hs))
+  holds-rows b media timestamps lengths marks parity hs t f =
+      any-rows (holds w (stored media timestamps lengths marks parity (scatter hs t)) stream b) f (λ r l e. rw e)
+      ∙ any-same (λ i. holds w (stored media timestamps lengths marks parity (scatter hs t)) stream b (slotAt hs i)) (rowHolds hs stream b) (length hs) (λ i l. rw (get-scatter (f .apart) (f .enough) i l))
 
-  pub same-rows : (g media timestamps marks parity : List ℕ) (hs : List Row) (t : List Record) (f : Fits t (w .k) hs)
-      → any (holdsSame w (stored media timestamps marks parity (scatter hs t)) stream g) (upTo (w .k)) ≡ any (rowSame (w .p) parity hs stream g) (upTo (length hs))
-  same-rows g media timestamps marks parity hs t f =
-      any-rows (holdsSame w (stored media timestamps marks parity (scatter hs t)) stream g) f (λ r l e. rw e)
-      ∙ any-same (λ i. holdsSame w (stored media timestamps marks parity (scatter hs t)) stream g (slotAt hs i)) (rowSame (w .p) parity hs stream g) (length hs) (λ i l. rw (get-scatter (f .apart) (f .enough) i l))
+  pub same-rows : (g media timestamps lengths marks parity : List ℕ) (hs : List Row) (t : List Record) (f : Fits t (w .k) hs)
+      → any (holdsSame w (stored media timestamps lengths marks parity (scatter hs t)) stream g) (upTo (w .k)) ≡ any (rowSame (w .p) parity hs stream g) (upTo (length hs))
+  same-rows g media timestamps lengths marks parity hs t f =
+      any-rows (holdsSame w (stored media timestamps lengths marks parity (scatter hs t)) stream g) f (λ r l e. rw e)
+      ∙ any-same (λ i. holdsSame w (stored media timestamps lengths marks parity (scatter hs t)) stream g (slotAt hs i)) (rowSame (w .p) parity hs stream g) (length hs) (λ i l. rw (get-scatter (f .apart) (f .enough) i l))

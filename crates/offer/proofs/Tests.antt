@@ -2,12 +2,17 @@
 use mathlib.Core.Path.{_≡_, refl, sym, ap, _∙_}
 use mathlib.Core.Bool.{Bool, true, false, not}
 use mathlib.Core.List.{List, _++_}
-use Prim.Native.Nat.{ℕ, _+_, _≤_}
+use Prim.Native.Nat.{ℕ, _+_, _-_, _≤_}
 use native.Mathlib.Omega.{arith}
 use lib.Dec.{eqb}
 use lib.ListN.{length, take, drop, length-drop}
-use lib.Seq.{take-all}
-use borrow.Author.Tests.{ltb-false, eqb-true, not-false, ne-eqb}
+use lib.Seq.{take-all, length-take-le}
+use Rattle.xor.specs.Xor.{padded}
+use Rattle.xor.specs.Same.{same}
+use Rattle.xor.specs.Padded.{same-padded}
+use Rattle.rtp.specs.Length.{whole-high}
+use Rattle.offer.specs.Rows.{Fitting}
+use borrow.Author.Tests.{ltb-false, not-false, ne-eqb}
 use Rattle.answer.specs.First.{first, Numbered, first-none, first-stops, first-goes}
 use Rattle.rtp.specs.Rtp.{rtpHeaderSize}
 use Rattle.rtp.specs.Fec.{parityHeaderSize}
@@ -18,12 +23,17 @@ use Rattle.calls.specs.Call.{standingTests, mediaOfferTests, parityOfferTests, 
 use Rattle.calls.specs.Accept.{acceptMedia, acceptParity}
 use Rattle.calls.specs.Standing.{standing-stops, standing-goes}
 
--- the rest of a datagram of h + p bytes is p bytes long
-pub rest-is : (h p : ℕ) (g : List ℕ) → length g ≡ h + p → take p (drop h g) ≡ drop h g
-rest-is h p g e = take-all p (drop h g) (simp length-drop (omega arith))
+-- the rest of a datagram behind its headers
+pub rest-is : (h : ℕ) (g : List ℕ) → take (length g - h) (drop h g) ≡ drop h g
+rest-is h g = take-all (length g - h) (drop h g) (omega (arith, length-drop h g))
 
-pub rest-long : (h p : ℕ) (g : List ℕ) → length g ≡ h + p → p ≤ length (drop h g)
-rest-long h p g e = omega (arith, length-drop h g)
+-- it is the same as a kept payload of its length exactly if both are with zeros up to p
+pub rest-same : (h p at : ℕ) (part g : List ℕ) → Fitting h p g → at + p ≤ length part
+    → same (padded p (take (length g - h) (drop at part))) (padded p (drop h g)) ≡ same (take (length g - h) (drop at part)) (take (length g - h) (drop h g))
+rest-same h p at part g f e =
+    let a : length (take (length g - h) (drop at part)) ≡ length g - h = length-take-le (length g - h) (drop at part) (simp length-drop (omega (arith, f .1))) in
+    same-padded p (take (length g - h) (drop at part)) (drop h g) (a ∙ sym (length-drop h g)) (omega (arith, a, f .1))
+    ∙ ap (same (take (length g - h) (drop at part))) (sym (rest-is h g))
 
 module _ (w : Window) (s : Store) (ts us : List (ℕ × Bool)) (n : Numbered ts) (z : ℕ) (e : z ≡ first (standingTests w s 0 0)) where
   pub standing-refuses : (z ≡ 0 → ⊥) → z ≡ first (standingTests w s 0 0 ++ ts ++ us)
@@ -42,19 +52,19 @@ media-numbered p g = (tt, (tt, (tt, (tt, tt))))
 pub parity-numbered : (stream l d p : ℕ) (g : List ℕ) → Numbered (parityTests stream l d p g)
 parity-numbered stream l d p g = (tt, (tt, (tt, (tt, (tt, (tt, (tt, tt)))))))
 
-pub media-long : (p : ℕ) (g : List ℕ) (y : ℕ) → y ≡ first (mediaTests p g) → y ≡ 0 → length g ≡ rtpHeaderSize + p
+pub media-long : (p : ℕ) (g : List ℕ) (y : ℕ) → y ≡ first (mediaTests p g) → y ≡ 0 → Fitting rtpHeaderSize p g
 media-long p g y f q =
     let n = first-none (mediaTests p g) (media-numbered p g) (sym f ∙ q) in
     let a = ltb-false (length g) rtpHeaderSize (n .0) in
-    let b = eqb-true _ p (not-false _ (n .1 .1 .1 .0)) in
-    omega arith
+    let b = whole-high p p (length g - rtpHeaderSize) (not-false _ (n .1 .1 .1 .0)) in
+    (a, omega arith)
 
-pub parity-long : (stream l d p : ℕ) (g : List ℕ) (y : ℕ) → y ≡ first (parityTests stream l d p g) → y ≡ 0 → length g ≡ parityHeaderSize + p
+pub parity-long : (stream l d p : ℕ) (g : List ℕ) (y : ℕ) → y ≡ first (parityTests stream l d p g) → y ≡ 0 → Fitting parityHeaderSize p g
 parity-long stream l d p g y f q =
     let n = first-none (parityTests stream l d p g) (parity-numbered stream l d p g) (sym f ∙ q) in
     let a = ltb-false (length g) parityHeaderSize (n .0) in
-    let b = eqb-true _ p (not-false _ (n .1 .1 .1 .0)) in
-    omega arith
+    let b = whole-high p p (length g - parityHeaderSize) (not-false _ (n .1 .1 .1 .0)) in
+    (a, omega arith)
 
 -- ---- the two ways through an offer
 module _ (w : Window) (g : List ℕ) (s : Store) where

@@ -40,16 +40,16 @@ no n w = record { answer = Refused n; window = w; changed = false; held = false;
 
 -- how long the parts are
 abbrev pub sizesBy : Parts → ℕ → Sizes
-sizesBy x len = record { media = length (x .media); timestamps = length (x .timestamps); marks = length (x .marks); parity = length (x .parity); records = len }
+sizesBy x len = record { media = length (x .media); timestamps = length (x .timestamps); lengths = length (x .lengths); marks = length (x .marks); parity = length (x .parity); records = len }
 
 -- ---- behind the test of order: the hand has its missing counts
-module _ (w : Window) (x : Parts) (len : ℕ) (hs : List Row) (z : ℕ) (stood : Stood w (sizesBy x len) false (x .marks) (x .rows) hs z) where
+module _ (w : Window) (x : Parts) (len : ℕ) (hs : List Row) (z : ℕ) (stood : Stood w (sizesBy x len) false (x .lengths) (x .marks) (x .rows) hs z) where
   -- the parts with the hand as it is then
   abbrev noted : Parts
-  noted = record { media = x .media; timestamps = x .timestamps; marks = x .marks; parity = x .parity; rows = hs }
+  noted = record { media = x .media; timestamps = x .timestamps; lengths = x .lengths; marks = x .marks; parity = x .parity; rows = hs }
 
   over-same : (t : List Record) → over noted t ≡ over x t
-  over-same t = ap (λ (u : List Record). stored (x .media) (x .timestamps) (x .marks) (x .parity) u) (alike-scatter (stood .alike) t)
+  over-same t = ap (λ (u : List Record). stored (x .media) (x .timestamps) (x .lengths) (x .marks) (x .parity) u) (alike-scatter (stood .alike) t)
 
   standing-is : (t : List Record) → length t ≡ len → Taken t (w .k) (x .rows) → z ≡ first (standingTests w (over x t) 0 0)
   standing-is t e k = stood .is (x .media) (x .timestamps) (x .parity) t (rw (length-scatter (x .rows) t, e)) k
@@ -64,7 +64,7 @@ module _ (w : Window) (x : Parts) (len : ℕ) (hs : List Row) (z : ℕ) (stood :
   }
 
   module _ (zero : z ≡ 0) where
-    pub stands : Stands w (sizesBy x len) false (x .marks) hs
+    pub stands : Stands w (sizesBy x len) false (x .lengths) (x .marks) hs
     stands = stood .none zero
 
     pub serves : Serves w noted
@@ -72,6 +72,7 @@ module _ (w : Window) (x : Parts) (len : ℕ) (hs : List Row) (z : ℕ) (stood :
       set-up = stands .set-up;
       media-long = stands .long .media-long;
       timestamps-long = stands .long .timestamps-long;
+      lengths-long = stands .long .lengths-long;
       marks-long = stands .long .marks-long;
       parity-long = stands .long .parity-long;
       sound = stands .sound;
@@ -104,7 +105,7 @@ module _ (w : Window) (x : Parts) (len : ℕ) (hs : List Row) (z : ℕ) (stood :
       pub media-wrong : (y ≡ 0 → ⊥) → Offer (offeredMedia w g) (w .k) len x (no y w) noted
       media-wrong h = refuses (offeredMedia w g) y (λ t e k. media-refused w g (over x t) y (datagram-refuses w (over x t) (mediaTests (w .p) g) (mediaPlaceTests w g (over x t)) (media-numbered (w .p) g) z (standing-is t e k) zero y ey h) h)
 
-      module _ (fine : y ≡ 0) (q : ℕ) (eq : (parity : List ℕ) (t : List Record) → q ≡ first (mediaPlaceTests w g (stored (x .media) (x .timestamps) (x .marks) parity t))) where
+      module _ (fine : y ≡ 0) (q : ℕ) (eq : (parity : List ℕ) (t : List Record) → q ≡ first (mediaPlaceTests w g (stored (x .media) (x .timestamps) (x .lengths) (x .marks) parity t))) where
         decided : (t : List Record) → length t ≡ len → Taken t (w .k) (x .rows) → q ≡ first (mediaOfferTests w g (over x t))
         decided t e k = place-decides w (over x t) (mediaTests (w .p) g) (mediaPlaceTests w g (over x t)) (media-numbered (w .p) g) z (standing-is t e k) zero y q ey fine (eq (x .parity) (scatter (x .rows) t))
 
@@ -140,21 +141,21 @@ module _ (w : Window) (x : Parts) (len : ℕ) (hs : List Row) (z : ℕ) (stood :
           parity-accepted r v a = accepts zero (offeredParity stream w g) (λ s. acceptParity stream g (begun w s)) r v a takes
 
           -- none is missing: the store is at rest
-          pub parity-spent : lacks ≡ 0 → Offer (offeredParity stream w g) (w .k) len x (plainly 0 w false) noted
+          pub parity-spent : lacks ≡ 0 → Offer (offeredParity stream w g) (w .k) len x (plainly 0 0 w false) noted
           parity-spent h = record {
             same-slots = stood .alike .same-slots;
             is = λ t e k.
                 let o = order-now zero t e k in
-                let rests : settle (acceptParity stream g (begun w (over noted t))) ≡ scene w (over noted t) 0 =
-                ap settle (take-none stream (snbase g) (recoveryOf g) (begun w (over noted t)) (missing (x .marks) (group w stream (snbase g))) (sym el ∙ h)) ∙ order-rest w (over noted t) o 0 in
-                ap (λ (u : State). record { answer = Done (u .rebuilt); window = u .window; store = u .store }) (sym rests) ∙ ap (λ (s : Store). settled (acceptParity stream g (begun w s))) (over-same t) ∙ takes t e k;
+                let rests : settle (acceptParity stream g (begun w (over noted t))) ≡ scene w (over noted t) 0 0 =
+                ap settle (take-none stream (snbase g) (recoveryOf (w .p) g) (begun w (over noted t)) (missing (x .marks) (group w stream (snbase g))) (sym el ∙ h)) ∙ order-rest w (over noted t) o 0 0 in
+                ap (λ (u : State). record { answer = Done (u .rebuilt) (u .spoilt); window = u .window; store = u .store }) (sym rests) ∙ ap (λ (s : Store). settled (acceptParity stream g (begun w s))) (over-same t) ∙ takes t e k;
             still = λ _ t. alike-scatter (stood .alike) t;
             low = λ e. absurd (let v : _≡_ {A = ℕ} 0 1 = cc in omega arith);
           }
 
           -- enough are missing: it is held, and the store is at rest
           pub parity-held : leastMissing ≤ lacks → w .«in_use» < w .k → (r : Offered) (parity : List ℕ) → Kept w stream g (x .parity) hs r parity
-              → Offer (offeredParity stream w g) (w .k) len x r (record { media = x .media; timestamps = x .timestamps; marks = x .marks; parity = parity; rows = hs })
+              → Offer (offeredParity stream w g) (w .k) len x r (record { media = x .media; timestamps = x .timestamps; lengths = x .lengths; marks = x .marks; parity = parity; rows = hs })
           parity-held many room r parity a = record {
             same-slots = stood .alike .same-slots;
             is = λ t e k. held t e k ∙ ap (λ (s : Store). settled (acceptParity stream g (begun w s))) (over-same t) ∙ takes t e k;
@@ -163,7 +164,7 @@ module _ (w : Window) (x : Parts) (len : ℕ) (hs : List Row) (z : ℕ) (stood :
           }
             where
               y′ : Parts
-              y′ = record { media = x .media; timestamps = x .timestamps; marks = x .marks; parity = parity; rows = hs }
+              y′ = record { media = x .media; timestamps = x .timestamps; lengths = x .lengths; marks = x .marks; parity = parity; rows = hs }
 
               held : (t : List Record) → length t ≡ len → Taken t (w .k) (x .rows) → outcome r y′ t ≡ settled (acceptParity stream g (begun w (over noted t)))
               held t e k =
@@ -173,10 +174,10 @@ module _ (w : Window) (x : Parts) (len : ℕ) (hs : List Row) (z : ℕ) (stood :
                   let gap : firstFree w s ≡ gapFrom 0 hs = first-free-rows hs (f .apart) (f .enough) in
                   let lacking : leastMissing ≤ length (missing (x .marks) (group w stream (snbase g))) = omega (arith, many, el) in
                   let near : firstFree w s < length (scatter hs t) = omega (arith, gap, stands zero .free-low room, f .enough, length-scatter hs t) in
-                  let rests : settle (acceptParity stream g (begun w s)) ≡ hold (firstFree w s) stream (snbase g) (recoveryOf g) (begun w s) =
-                  ap settle (take-more stream (snbase g) (recoveryOf g) (begun w s) (missing (x .marks) (group w stream (snbase g))) (omega (arith, lacking))) ∙ held-rest w s o (firstFree w s) stream (snbase g) (recoveryOf g) 0 lacking near in
-                  let table : scatter (left r hs) t ≡ set (scatter hs t) (firstFree w s) (heldRecord stream (snbase g) (recoveryOf g)) =
-                  ap (λ (b : Bool). scatter (cond b (holdIn 0 (r .it) hs) hs) t) (a .holds) ∙ ap (λ (v : Record). scatter (holdIn 0 v hs) t) (a .is) ∙ held-in-table hs (f .apart) (f .enough) (heldRecord stream (snbase g) (recoveryOf g)) in
-                  let payloads : parity ≡ paste (x .parity) (firstFree w s * w .p) (recoveryOf g .payload) (w .p) = a .lies ∙ ap (λ (n : ℕ). paste (x .parity) (n * w .p) (recoveryOf g .payload) (w .p)) (sym gap) in
-                  (λ i. record { answer = a .answers i; window = a .counts i; store = stored (x .media) (x .timestamps) (x .marks) (payloads i) (table i) })
-                  ∙ ap (λ (u : State). record { answer = Done (u .rebuilt); window = u .window; store = u .store }) (sym rests)
+                  let rests : settle (acceptParity stream g (begun w s)) ≡ hold (firstFree w s) stream (snbase g) (recoveryOf (w .p) g) (begun w s) =
+                  ap settle (take-more stream (snbase g) (recoveryOf (w .p) g) (begun w s) (missing (x .marks) (group w stream (snbase g))) (omega (arith, lacking))) ∙ held-rest w s o (firstFree w s) stream (snbase g) (recoveryOf (w .p) g) 0 0 lacking near in
+                  let table : scatter (left r hs) t ≡ set (scatter hs t) (firstFree w s) (heldRecord stream (snbase g) (recoveryOf (w .p) g)) =
+                  ap (λ (b : Bool). scatter (cond b (holdIn 0 (r .it) hs) hs) t) (a .holds) ∙ ap (λ (v : Record). scatter (holdIn 0 v hs) t) (a .is) ∙ held-in-table hs (f .apart) (f .enough) (heldRecord stream (snbase g) (recoveryOf (w .p) g)) in
+                  let payloads : parity ≡ paste (x .parity) (firstFree w s * w .p) (recoveryOf (w .p) g .content .payload) (w .p) = a .lies ∙ ap (λ (n : ℕ). paste (x .parity) (n * w .p) (recoveryOf (w .p) g .content .payload) (w .p)) (sym gap) in
+                  (λ i. record { answer = a .answers i; window = a .counts i; store = stored (x .media) (x .timestamps) (x .lengths) (x .marks) (payloads i) (table i) })
+                  ∙ ap (λ (u : State). record { answer = Done (u .rebuilt) (u .spoilt); window = u .window; store = u .store }) (sym rests)

@@ -16,7 +16,7 @@ ghost use Rattle.rtp.specs.Rtp.{rtpHeaderSize, sequenceNumber};
 ghost use Rattle.rtp.specs.Fec.{parityHeaderSize};
 ghost use Rattle.rtp.specs.Fec as fec;
 ghost use Rattle.window.specs.declared.Record.{Record};
-ghost use Rattle.window.specs.Limits.{leastMissing, mostRecords};
+ghost use Rattle.window.specs.Limits.{leastMissing, mostRecords, mostCounted};
 ghost use Rattle.window.specs.Record.{blank};
 ghost use Rattle.window.specs.Store.{stored};
 ghost use Rattle.window.specs.Bounds.{SetUp};
@@ -29,8 +29,8 @@ ghost use Rattle.table.specs.View.{hand, slotAt, itAt};
 ghost use Rattle.table.specs.Hold.{gapFrom};
 ghost use Rattle.order.specs.Stands.{Stood};
 ghost use Rattle.engine.specs.Round.{Serves};
-ghost use Rattle.offer.specs.Rows.{rowHolds, rowSame, Found};
-ghost use Rattle.offer.specs.Offer.{Accepted, Kept, Offer};
+ghost use Rattle.offer.specs.Rows.{Fitting, rowHolds, rowSame, Found};
+ghost use Rattle.offer.specs.Offer.{Went, Accepted, Kept, Offer};
 
 // What an offer gives back: the answer and the next window value; whether the records differ from what they were; and the
 // record that is still to go into the hand, if one is held.
@@ -56,11 +56,11 @@ fn refused(w: Window, fault: u8) -> Offered
 }
 
 // A packet taken in that goes into no record.
-fn taken(window: Window, rebuilt: usize, changed: bool) -> Offered
-    ensures { λ r. ⌜ r ≡ record { answer = Done rebuilt; window = window; changed = changed; held = false; it = blank } ⌝ }
+fn taken(window: Window, rebuilt: usize, spoilt: usize, changed: bool) -> Offered
+    ensures { λ r. ⌜ r ≡ record { answer = Done rebuilt spoilt; window = window; changed = changed; held = false; it = blank } ⌝ }
 {
     Offered {
-        answer: Answer::Done(rebuilt),
+        answer: Answer::Done(rebuilt, spoilt),
         window,
         changed,
         held: false,
@@ -73,6 +73,7 @@ fn standing(
     w: Window,
     media: &[u8],
     timestamps: &[u32],
+    lengths: &[u16],
     marks: &[u8],
     parity: &[u8],
     rows: &mut [u32],
@@ -80,16 +81,44 @@ fn standing(
     len: usize,
 ) -> u8
     requires { ⌜ length (hand (now rows)) ≡ m ⌝ }
-    ensures { λ r. ⌜ Stood w (record { media = length (now (media .entry)); timestamps = length (now (timestamps .entry)); marks = length (now (marks .entry)); parity = length (now (parity .entry)); records = len }) false (now (marks .entry)) (hand (now (rows .entry))) (hand (now (rows .exit))) r ⌝ }
+    ensures { λ r. ⌜ Stood w (record { media = length (now (media .entry)); timestamps = length (now (timestamps .entry)); lengths = length (now (lengths .entry)); marks = length (now (marks .entry)); parity = length (now (parity .entry)); records = len }) false (now (lengths .entry)) (now (marks .entry)) (hand (now (rows .entry))) (hand (now (rows .exit))) r ⌝ }
 {
     let z = Sizes {
         media: media.len(),
         timestamps: timestamps.len(),
+        lengths: lengths.len(),
         marks: marks.len(),
         parity: parity.len(),
         records: len,
     };
-    order::standing_fault(w, z, false, marks, rows, m)
+    order::standing_fault(w, z, false, lengths, marks, rows, m)
+}
+
+// A packet was taken in, with its own counts: what it makes ready rebuilds.
+fn go_on(
+    v: Window,
+    rebuilt: usize,
+    spoilt: usize,
+    media: &mut [u8],
+    timestamps: &mut [u32],
+    lengths: &mut [u16],
+    marks: &mut [u8],
+    parity: &mut [u8],
+    rows: &mut [u32],
+    m: usize,
+) -> Offered
+    requires { ⌜ Serves v (record { media = now media; timestamps = now timestamps; lengths = now lengths; marks = now marks; parity = now parity; rows = hand (now rows) }) × (length (hand (now rows)) ≡ m) × (v .present + v .«in_use» ≤ mostCounted) × (rebuilt ≤ 1) × (spoilt ≤ 1) ⌝ }
+    ensures { λ r. ⌜ Went v (record { media = now (media .entry); timestamps = now (timestamps .entry); lengths = now (lengths .entry); marks = now (marks .entry); parity = now (parity .entry); rows = hand (now (rows .entry)) }) rebuilt spoilt r
+        (record { media = now (media .exit); timestamps = now (timestamps .exit); lengths = now (lengths .exit); marks = now (marks .exit); parity = now (parity .exit); rows = hand (now (rows .exit)) }) ⌝ }
+{
+    let r = engine::settle(v, media, timestamps, lengths, marks, parity, rows, m);
+    let window = r.window;
+    taken(
+        window,
+        rebuilt + r.rebuilt,
+        spoilt + r.spoilt,
+        r.rebuilt + r.spoilt != 0,
+    )
 }
 
 // ---- media
@@ -100,10 +129,11 @@ fn media_place_fault(
     datagram: &[u8],
     media: &[u8],
     timestamps: &[u32],
+    lengths: &[u16],
     marks: &[u8],
 ) -> u8
-    requires { ⌜ SetUp w × (length (now datagram) ≡ rtpHeaderSize + w .p) × (w .n * w .p ≤ length (now media)) × (w .n ≤ length (now timestamps)) × (w .n ≤ length (now marks)) ⌝ }
-    ensures { λ r. ⌜ ((parity : List ℕ) (t : List Record) → r ≡ first (mediaPlaceTests w (now (datagram .entry)) (stored (now (media .entry)) (now (timestamps .entry)) (now (marks .entry)) parity t)))
+    requires { ⌜ SetUp w × Fitting rtpHeaderSize (w .p) (now datagram) × (w .n * w .p ≤ length (now media)) × (w .n ≤ length (now timestamps)) × (w .n ≤ length (now lengths)) × (w .n ≤ length (now marks)) ⌝ }
+    ensures { λ r. ⌜ ((parity : List ℕ) (t : List Record) → r ≡ first (mediaPlaceTests w (now (datagram .entry)) (stored (now (media .entry)) (now (timestamps .entry)) (now (lengths .entry)) (now (marks .entry)) parity t)))
         × (r ≡ 0 → (position w (sequenceNumber (now (datagram .entry))) < w .n) × (getD (now (marks .entry)) (position w (sequenceNumber (now (datagram .entry)))) 0 ≡ 0)) ⌝ }
 {
     let i = sequence::position(w.base, rtp::sequence_number(datagram)) as usize;
@@ -114,8 +144,12 @@ fn media_place_fault(
         return 0;
     }
     let p = w.p;
+    let size = datagram.len() - rtp::RTP_HEADER;
+    if rtp::wide(lengths[i]) != size {
+        return 15;
+    }
     if (timestamps[i] == rtp::timestamp(datagram))
-        & xor::same_at(media, i * p, datagram, rtp::RTP_HEADER, p)
+        & xor::same_at(media, i * p, datagram, rtp::RTP_HEADER, size)
     {
         return 14;
     }
@@ -128,26 +162,27 @@ fn accept_media(
     datagram: &[u8],
     media: &mut [u8],
     timestamps: &mut [u32],
+    lengths: &mut [u16],
     marks: &mut [u8],
     parity: &mut [u8],
     rows: &mut [u32],
     m: usize,
 ) -> Offered
-    requires { ⌜ Serves w (record { media = now media; timestamps = now timestamps; marks = now marks; parity = now parity; rows = hand (now rows) }) × (length (hand (now rows)) ≡ m) × (length (now datagram) ≡ rtpHeaderSize + w .p)
+    requires { ⌜ Serves w (record { media = now media; timestamps = now timestamps; lengths = now lengths; marks = now marks; parity = now parity; rows = hand (now rows) }) × (length (hand (now rows)) ≡ m) × Fitting rtpHeaderSize (w .p) (now datagram)
         × (position w (sequenceNumber (now datagram)) < w .n) × (getD (now marks) (position w (sequenceNumber (now datagram))) 0 ≡ 0) × (w .present ≤ w .n) × (w .«in_use» ≤ mostRecords) ⌝ }
-    ensures { λ r. ⌜ Accepted (λ s. acceptMedia (now (datagram .entry)) (begun w s)) (w .k) (record { media = now (media .entry); timestamps = now (timestamps .entry); marks = now (marks .entry); parity = now (parity .entry); rows = hand (now (rows .entry)) }) r
-        (record { media = now (media .exit); timestamps = now (timestamps .exit); marks = now (marks .exit); parity = now (parity .exit); rows = hand (now (rows .exit)) }) × (r .held ≡ false) ⌝ }
+    ensures { λ r. ⌜ Accepted (λ s. acceptMedia (now (datagram .entry)) (begun w s)) (w .k) (record { media = now (media .entry); timestamps = now (timestamps .entry); lengths = now (lengths .entry); marks = now (marks .entry); parity = now (parity .entry); rows = hand (now (rows .entry)) }) r
+        (record { media = now (media .exit); timestamps = now (timestamps .exit); lengths = now (lengths .exit); marks = now (marks .exit); parity = now (parity .exit); rows = hand (now (rows .exit)) }) × (r .held ≡ false) ⌝ }
 {
     let i = sequence::position(w.base, rtp::sequence_number(datagram)) as usize;
     let p = w.p;
-    xor::copy_at(media, i * p, datagram, rtp::RTP_HEADER, p);
+    let size = datagram.len() - rtp::RTP_HEADER;
+    xor::lay_at(media, i * p, datagram, rtp::RTP_HEADER, size, p);
     timestamps[i] = rtp::timestamp(datagram);
+    lengths[i] = size as u16;
     marks[i] = 1;
     engine::lower(w, i, rows, m);
     let v = engine::recounted(w, w.present + 1, w.in_use);
-    let r = engine::settle(v, media, timestamps, marks, parity, rows, m);
-    let window = r.window;
-    taken(window, r.rebuilt, r.rebuilt != 0)
+    go_on(v, 0, 0, media, timestamps, lengths, marks, parity, rows, m)
 }
 
 // ---- parity
@@ -177,7 +212,7 @@ fn any_holds(rows: &[u32], m: usize, stream: u8, snbase: u16) -> bool
 
 // Row i holds the group of a parity datagram with the same recovery.
 fn row_same(w: Window, stream: u8, datagram: &[u8], parity: &[u8], rows: &[u32], i: usize) -> bool
-    requires { ⌜ (i < length (hand (now rows))) × (used (itAt (hand (now rows)) i) ≡ true → slotAt (hand (now rows)) i < w .k) × (w .k * w .p ≤ length (now parity)) × (length (now datagram) ≡ parityHeaderSize + w .p) ⌝ }
+    requires { ⌜ (i < length (hand (now rows))) × (used (itAt (hand (now rows)) i) ≡ true → slotAt (hand (now rows)) i < w .k) × (w .k * w .p ≤ length (now parity)) × Fitting parityHeaderSize (w .p) (now datagram) ⌝ }
     ensures { λ r. ⌜ r ≡ rowSame (w .p) (now (parity .entry)) (hand (now (rows .entry))) stream (now (datagram .entry)) i ⌝ }
 {
     if !row_holds(rows, i, stream, rtp::snbase(datagram)) {
@@ -187,14 +222,20 @@ fn row_same(w: Window, stream: u8, datagram: &[u8], parity: &[u8], rows: &[u32],
     if v.timestamp_recovery != rtp::timestamp_recovery(datagram) {
         return false;
     }
-    let p = w.p;
+    if v.length_recovery != rtp::length_recovery(datagram) {
+        return false;
+    }
+    let size = datagram.len() - rtp::PARITY_HEADERS;
+    if rtp::wide(v.payload_length) != size {
+        return false;
+    }
     let s = table::slot_at(rows, i);
-    xor::same_at(parity, s * p, datagram, rtp::PARITY_HEADERS, p)
+    xor::same_at(parity, s * w.p, datagram, rtp::PARITY_HEADERS, size)
 }
 
 // One of the m rows holds the group of a parity datagram with the same recovery.
 fn any_same(w: Window, stream: u8, datagram: &[u8], parity: &[u8], rows: &[u32], m: usize) -> bool
-    requires { ⌜ (length (hand (now rows)) ≡ m) × ((i : ℕ) → i < m → used (itAt (hand (now rows)) i) ≡ true → slotAt (hand (now rows)) i < w .k) × (w .k * w .p ≤ length (now parity)) × (length (now datagram) ≡ parityHeaderSize + w .p) ⌝ }
+    requires { ⌜ (length (hand (now rows)) ≡ m) × ((i : ℕ) → i < m → used (itAt (hand (now rows)) i) ≡ true → slotAt (hand (now rows)) i < w .k) × (w .k * w .p ≤ length (now parity)) × Fitting parityHeaderSize (w .p) (now datagram) ⌝ }
     ensures { λ r. ⌜ r ≡ any (rowSame (w .p) (now (parity .entry)) (hand (now (rows .entry))) stream (now (datagram .entry))) (upTo m) ⌝ }
 {
     let mut found = false;
@@ -228,7 +269,7 @@ fn parity_place_fault(
     rows: &[u32],
     m: usize,
 ) -> Placed
-    requires { ⌜ SetUp w × (w .n ≤ length (now marks)) × (w .k * w .p ≤ length (now parity)) × (length (hand (now rows)) ≡ m) × ((i : ℕ) → i < m → used (itAt (hand (now rows)) i) ≡ true → slotAt (hand (now rows)) i < w .k) × (length (now datagram) ≡ parityHeaderSize + w .p) ⌝ }
+    requires { ⌜ SetUp w × (w .n ≤ length (now marks)) × (w .k * w .p ≤ length (now parity)) × (length (hand (now rows)) ≡ m) × ((i : ℕ) → i < m → used (itAt (hand (now rows)) i) ≡ true → slotAt (hand (now rows)) i < w .k) × Fitting parityHeaderSize (w .p) (now datagram) ⌝ }
     ensures { λ r. ⌜ Found w stream (now (datagram .entry)) (now (marks .entry)) (now (parity .entry)) (hand (now (rows .entry))) r ⌝ }
 {
     let snbase = rtp::snbase(datagram);
@@ -248,43 +289,48 @@ fn parity_place_fault(
     Placed { fault: 0, missing }
 }
 
-// A parity packet that finds one packet missing rebuilds it, and what that makes ready rebuilds.
+// A parity packet that finds one packet missing rebuilds it, and what that makes ready rebuilds; or it is spoilt, and is not held.
 fn accept_last(
     w: Window,
     stream: u8,
     datagram: &[u8],
     media: &mut [u8],
     timestamps: &mut [u32],
+    lengths: &mut [u16],
     marks: &mut [u8],
     parity: &mut [u8],
     rows: &mut [u32],
     m: usize,
 ) -> Offered
-    requires { ⌜ Serves w (record { media = now media; timestamps = now timestamps; marks = now marks; parity = now parity; rows = hand (now rows) }) × (length (hand (now rows)) ≡ m) × (length (now datagram) ≡ parityHeaderSize + w .p)
+    requires { ⌜ Serves w (record { media = now media; timestamps = now timestamps; lengths = now lengths; marks = now marks; parity = now parity; rows = hand (now rows) }) × (length (hand (now rows)) ≡ m) × Fitting parityHeaderSize (w .p) (now datagram)
         × Inside w stream (fec.snbase (now datagram)) × (length (missing (now marks) (group w stream (fec.snbase (now datagram)))) ≡ 1) × (w .present ≤ w .n) × (w .«in_use» ≤ mostRecords) ⌝ }
-    ensures { λ r. ⌜ Accepted (λ s. acceptParity stream (now (datagram .entry)) (begun w s)) (w .k) (record { media = now (media .entry); timestamps = now (timestamps .entry); marks = now (marks .entry); parity = now (parity .entry); rows = hand (now (rows .entry)) }) r
-        (record { media = now (media .exit); timestamps = now (timestamps .exit); marks = now (marks .exit); parity = now (parity .exit); rows = hand (now (rows .exit)) }) ⌝ }
+    ensures { λ r. ⌜ Accepted (λ s. acceptParity stream (now (datagram .entry)) (begun w s)) (w .k) (record { media = now (media .entry); timestamps = now (timestamps .entry); lengths = now (lengths .entry); marks = now (marks .entry); parity = now (parity .entry); rows = hand (now (rows .entry)) }) r
+        (record { media = now (media .exit); timestamps = now (timestamps .exit); lengths = now (lengths .exit); marks = now (marks .exit); parity = now (parity .exit); rows = hand (now (rows .exit)) }) ⌝ }
 {
     let snbase = rtp::snbase(datagram);
     let recovery = rtp::timestamp_recovery(datagram);
     let i = group::first_missing(w, marks, stream, snbase);
-    group::rebuild_at(
+    let good = group::rebuild_at(
         w,
         stream,
         snbase,
         i,
         recovery,
+        rtp::length_recovery(datagram),
+        datagram.len() - rtp::PARITY_HEADERS,
         datagram,
         rtp::PARITY_HEADERS,
         media,
         timestamps,
+        lengths,
         marks,
     );
+    if !good {
+        return go_on(w, 0, 1, media, timestamps, lengths, marks, parity, rows, m);
+    }
     engine::lower(w, i, rows, m);
     let v = engine::recounted(w, w.present + 1, w.in_use);
-    let r = engine::settle(v, media, timestamps, marks, parity, rows, m);
-    let window = r.window;
-    taken(window, r.rebuilt + 1, r.rebuilt != 0)
+    go_on(v, 1, 0, media, timestamps, lengths, marks, parity, rows, m)
 }
 
 // A parity packet that finds more missing is held: its payload at the first free record, the record for the caller to put there.
@@ -296,15 +342,16 @@ fn accept_held(
     rows: &[u32],
     m: usize,
 ) -> Offered
-    requires { ⌜ (w .k * w .p ≤ length (now parity)) × (length (hand (now rows)) ≡ m) × (gapFrom 0 (hand (now rows)) < w .k) × (length (now datagram) ≡ parityHeaderSize + w .p) × (w .«in_use» ≤ mostRecords) ⌝ }
+    requires { ⌜ (w .k * w .p ≤ length (now parity)) × (length (hand (now rows)) ≡ m) × (gapFrom 0 (hand (now rows)) < w .k) × Fitting parityHeaderSize (w .p) (now datagram) × (w .«in_use» ≤ mostRecords) × (w .p ≤ 1428) ⌝ }
     ensures { λ r. ⌜ Kept w stream (now (datagram .entry)) (now (parity .entry)) (hand (now (rows .entry))) r (now (parity .exit)) ⌝ }
 {
     let p = w.p;
     let free = table::first_free(rows, m);
-    xor::copy_at(parity, free * p, datagram, rtp::PARITY_HEADERS, p);
+    let size = datagram.len() - rtp::PARITY_HEADERS;
+    xor::lay_at(parity, free * p, datagram, rtp::PARITY_HEADERS, size, p);
     let window = engine::recounted(w, w.present, w.in_use + 1);
     Offered {
-        answer: Answer::Done(0),
+        answer: Answer::Done(0, 0),
         window,
         changed: true,
         held: true,
@@ -313,6 +360,8 @@ fn accept_held(
             in_use: 1,
             snbase: rtp::snbase(datagram),
             timestamp_recovery: rtp::timestamp_recovery(datagram),
+            length_recovery: rtp::length_recovery(datagram),
+            payload_length: size as u16,
         },
     }
 }
@@ -325,6 +374,7 @@ pub fn offer_media(
     datagram: &[u8],
     media: &mut [u8],
     timestamps: &mut [u32],
+    lengths: &mut [u16],
     marks: &mut [u8],
     parity: &mut [u8],
     rows: &mut [u32],
@@ -332,10 +382,10 @@ pub fn offer_media(
     len: usize,
 ) -> Offered
     requires { ⌜ (length (hand (now rows)) ≡ m) × (m ≤ mostRecords) ⌝ }
-    ensures { λ r. ⌜ Offer (offeredMedia w (now (datagram .entry))) (w .k) len (record { media = now (media .entry); timestamps = now (timestamps .entry); marks = now (marks .entry); parity = now (parity .entry); rows = hand (now (rows .entry)) }) r
-        (record { media = now (media .exit); timestamps = now (timestamps .exit); marks = now (marks .exit); parity = now (parity .exit); rows = hand (now (rows .exit)) }) × (r .held ≡ false) ⌝ }
+    ensures { λ r. ⌜ Offer (offeredMedia w (now (datagram .entry))) (w .k) len (record { media = now (media .entry); timestamps = now (timestamps .entry); lengths = now (lengths .entry); marks = now (marks .entry); parity = now (parity .entry); rows = hand (now (rows .entry)) }) r
+        (record { media = now (media .exit); timestamps = now (timestamps .exit); lengths = now (lengths .exit); marks = now (marks .exit); parity = now (parity .exit); rows = hand (now (rows .exit)) }) × (r .held ≡ false) ⌝ }
 {
-    let fault = standing(w, media, timestamps, marks, parity, rows, m, len);
+    let fault = standing(w, media, timestamps, lengths, marks, parity, rows, m, len);
     if fault != 0 {
         return refused(w, fault);
     }
@@ -343,11 +393,21 @@ pub fn offer_media(
     if wrong != 0 {
         return refused(w, wrong);
     }
-    let place = media_place_fault(w, datagram, media, timestamps, marks);
+    let place = media_place_fault(w, datagram, media, timestamps, lengths, marks);
     if place != 0 {
         return refused(w, place);
     }
-    accept_media(w, datagram, media, timestamps, marks, parity, rows, m)
+    accept_media(
+        w,
+        datagram,
+        media,
+        timestamps,
+        lengths,
+        marks,
+        parity,
+        rows,
+        m,
+    )
 }
 
 // A parity datagram is offered on the port of a stream. The hand has m rows, the table len records.
@@ -357,6 +417,7 @@ pub fn offer_parity(
     datagram: &[u8],
     media: &mut [u8],
     timestamps: &mut [u32],
+    lengths: &mut [u16],
     marks: &mut [u8],
     parity: &mut [u8],
     rows: &mut [u32],
@@ -364,10 +425,10 @@ pub fn offer_parity(
     len: usize,
 ) -> Offered
     requires { ⌜ (length (hand (now rows)) ≡ m) × (m ≤ mostRecords) ⌝ }
-    ensures { λ r. ⌜ Offer (offeredParity stream w (now (datagram .entry))) (w .k) len (record { media = now (media .entry); timestamps = now (timestamps .entry); marks = now (marks .entry); parity = now (parity .entry); rows = hand (now (rows .entry)) }) r
-        (record { media = now (media .exit); timestamps = now (timestamps .exit); marks = now (marks .exit); parity = now (parity .exit); rows = hand (now (rows .exit)) }) ⌝ }
+    ensures { λ r. ⌜ Offer (offeredParity stream w (now (datagram .entry))) (w .k) len (record { media = now (media .entry); timestamps = now (timestamps .entry); lengths = now (lengths .entry); marks = now (marks .entry); parity = now (parity .entry); rows = hand (now (rows .entry)) }) r
+        (record { media = now (media .exit); timestamps = now (timestamps .exit); lengths = now (lengths .exit); marks = now (marks .exit); parity = now (parity .exit); rows = hand (now (rows .exit)) }) ⌝ }
 {
-    let fault = standing(w, media, timestamps, marks, parity, rows, m, len);
+    let fault = standing(w, media, timestamps, lengths, marks, parity, rows, m, len);
     if fault != 0 {
         return refused(w, fault);
     }
@@ -380,7 +441,7 @@ pub fn offer_parity(
         return refused(w, place.fault);
     }
     if place.missing == 0 {
-        return taken(w, 0, false);
+        return taken(w, 0, 0, false);
     }
     if place.missing == 1 {
         return accept_last(
@@ -389,6 +450,7 @@ pub fn offer_parity(
             datagram,
             media,
             timestamps,
+            lengths,
             marks,
             parity,
             rows,

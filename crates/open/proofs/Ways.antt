@@ -41,12 +41,12 @@ front-zeros n l =
     ap (λ (t : List ℕ). t ++ drop (0 + n) l) (ap (λ (k : ℕ). take k (replicate n 0)) (sym (length-replicate {A = ℕ} n 0)) ∙ take-length (replicate n 0))
     ∙ ap (λ (k : ℕ). replicate n 0 ++ drop k l) (zero-add n)
 
--- the four parts cleared, and the records set free
-pub all-cleared : (w : Window) (media timestamps marks parity m t a p : List ℕ) → m ≡ paste media 0 (replicate (w .n * w .p) 0) (w .n * w .p) → t ≡ zeroed (w .n) timestamps
+-- the five parts cleared, and the records set free
+pub all-cleared : (w : Window) (media timestamps lengths marks parity m t l a p : List ℕ) → m ≡ paste media 0 (replicate (w .n * w .p) 0) (w .n * w .p) → t ≡ zeroed (w .n) timestamps → l ≡ zeroed (w .n) lengths
     → a ≡ paste marks 0 (replicate (w .n) 0) (w .n) → p ≡ paste parity 0 (replicate (w .k * w .p) 0) (w .k * w .p)
-    → (rs : List Record) → stored m t a p (wiped (w .k) rs) ≡ cleared w (stored media timestamps marks parity rs)
-all-cleared w media timestamps marks parity m t a p em et ea ep rs =
-    rw (em ∙ front-zeros (w .n * w .p) media, et, ea ∙ front-zeros (w .n) marks, ep ∙ front-zeros (w .k * w .p) parity)
+    → (rs : List Record) → stored m t l a p (wiped (w .k) rs) ≡ cleared w (stored media timestamps lengths marks parity rs)
+all-cleared w media timestamps lengths marks parity m t l a p em et el ea ep rs =
+    rw (em ∙ front-zeros (w .n * w .p) media, et, el, ea ∙ front-zeros (w .n) marks, ep ∙ front-zeros (w .k * w .p) parity)
 
 -- ---- opening
 
@@ -55,13 +55,13 @@ abbrev pub no : ℕ → Store → Outcome
 no r s = record { answer = Refused r; window = noWindow; store = s }
 
 -- the sizes of a store whose table has as many records as is said
-abbrev pub sizes : (media timestamps marks parity : List ℕ) → ℕ → Sizes
-sizes media timestamps marks parity len = record { media = length media; timestamps = length timestamps; marks = length marks; parity = length parity; records = len }
+abbrev pub sizes : (media timestamps lengths marks parity : List ℕ) → ℕ → Sizes
+sizes media timestamps lengths marks parity len = record { media = length media; timestamps = length timestamps; lengths = length lengths; marks = length marks; parity = length parity; records = len }
 
-module _ (w v : Window) (ew : w ≡ v) (media timestamps marks parity : List ℕ) (len r : ℕ) (e : r ≡ first (setUpTests w ++ ((4, shortSizes w (sizes media timestamps marks parity len)) ∷ []))) where
+module _ (w v : Window) (ew : w ≡ v) (media timestamps lengths marks parity : List ℕ) (len r : ℕ) (e : r ≡ first (setUpTests w ++ ((4, shortSizes w (sizes media timestamps lengths marks parity len)) ∷ []))) where
   -- the store with a table
   abbrev pub lent : List Record → Store
-  lent t = stored media timestamps marks parity t
+  lent t = stored media timestamps lengths marks parity t
 
   -- the tests of the sizes are those of the store
   tests-are : (t : List Record) → length t ≡ len → r ≡ first (openTests w (lent t))
@@ -78,13 +78,13 @@ module _ (w v : Window) (ew : w ≡ v) (media timestamps marks parity : List ℕ
     sized t l = sizes-good w (lent t) (first-none (openTests w (lent t)) (tt, (tt, (tt, (tt, tt)))) (sym (tests-are t l) ∙ z) .1 .1 .1 .0)
 
     -- what they leave known of each part
-    pub open-long : (w .n * w .p ≤ length media) × (w .n ≤ length timestamps) × (w .n ≤ length marks) × (w .k * w .p ≤ length parity) × (w .k ≤ len)
+    pub open-long : (w .n * w .p ≤ length media) × (w .n ≤ length timestamps) × (w .n ≤ length lengths) × (w .n ≤ length marks) × (w .k * w .p ≤ length parity) × (w .k ≤ len)
     open-long =
         let l = length-replicate {A = Record} len blank in
         let s = sized (replicate len blank) l in
-        (s .media-long, s .timestamps-long, s .marks-long, s .parity-long, omega (arith, s .records-long))
+        (s .media-long, s .timestamps-long, s .lengths-long, s .marks-long, s .parity-long, omega (arith, s .records-long))
 
     -- where none applies
-    pub open-done : (t : List Record) → length t ≡ len → (s : Store) → s ≡ cleared w (lent t) → record { answer = Done 0; window = w; store = s } ≡ opened v (lent t)
+    pub open-done : (t : List Record) → length t ≡ len → (s : Store) → s ≡ cleared w (lent t) → record { answer = Done 0 0; window = w; store = s } ≡ opened v (lent t)
     unfolding opened
     open-done t l s q = rw (← ew, ← tests-are t l, z, q)

@@ -33,6 +33,18 @@ fn zero32(dst: &mut [u32], n: usize)
     }
 }
 
+// Clears the first n numbers of 16 bits.
+fn zero16(dst: &mut [u16], n: usize)
+    requires { ⌜ n ≤ length (now dst) ⌝ }
+    ensures { λ _. ⌜ now (dst .exit) ≡ zeroed n (now (dst .entry)) ⌝ }
+{
+    let mut i = 0;
+    while i < n {
+        dst[i] = 0;
+        i += 1;
+    }
+}
+
 // The first of refusals 1 to 4 that applies, or 0.
 fn open_fault(w: Window, z: Sizes) -> u8
     ensures { λ r. ⌜ r ≡ first (setUpTests w ++ ((4, shortSizes w z) ∷ [])) ⌝ }
@@ -86,14 +98,22 @@ fn refused(fault: u8) -> Opened
 }
 
 // All that a window needs of the lent store but for the records set to zero: every position missing.
-fn clear(w: Window, media: &mut [u8], timestamps: &mut [u32], marks: &mut [u8], parity: &mut [u8])
-    requires { ⌜ (w .n * w .p ≤ length (now media)) × (w .n ≤ length (now timestamps)) × (w .n ≤ length (now marks)) × (w .k * w .p ≤ length (now parity)) ⌝ }
-    ensures { λ _. ⌜ ((t : List Record) → stored (now (media .exit)) (now (timestamps .exit)) (now (marks .exit)) (now (parity .exit)) (wiped (w .k) t)
-        ≡ cleared w (stored (now (media .entry)) (now (timestamps .entry)) (now (marks .entry)) (now (parity .entry)) t)) ⌝ }
+fn clear(
+    w: Window,
+    media: &mut [u8],
+    timestamps: &mut [u32],
+    lengths: &mut [u16],
+    marks: &mut [u8],
+    parity: &mut [u8],
+)
+    requires { ⌜ (w .n * w .p ≤ length (now media)) × (w .n ≤ length (now timestamps)) × (w .n ≤ length (now lengths)) × (w .n ≤ length (now marks)) × (w .k * w .p ≤ length (now parity)) ⌝ }
+    ensures { λ _. ⌜ ((t : List Record) → stored (now (media .exit)) (now (timestamps .exit)) (now (lengths .exit)) (now (marks .exit)) (now (parity .exit)) (wiped (w .k) t)
+        ≡ cleared w (stored (now (media .entry)) (now (timestamps .entry)) (now (lengths .entry)) (now (marks .entry)) (now (parity .entry)) t)) ⌝ }
 {
     let n = w.n;
     xor::zero_at(media, 0, n * w.p);
     zero32(timestamps, n);
+    zero16(lengths, n);
     xor::zero_at(marks, 0, n);
     xor::zero_at(parity, 0, w.k * w.p);
 }
@@ -110,6 +130,7 @@ pub fn open(
     k: usize,
     media: &mut [u8],
     timestamps: &mut [u32],
+    lengths: &mut [u16],
     marks: &mut [u8],
     parity: &mut [u8],
     len: usize,
@@ -118,13 +139,14 @@ pub fn open(
         × ((t : List Record) → length t ≡ len → record {
           answer = r .answer;
           window = r .window;
-          store = stored (now (media .exit)) (now (timestamps .exit)) (now (marks .exit)) (now (parity .exit)) (wiped (r .records) t);
-        } ≡ opened (asked base ssrc l d p n k) (stored (now (media .entry)) (now (timestamps .entry)) (now (marks .entry)) (now (parity .entry)) t)) ⌝ }
+          store = stored (now (media .exit)) (now (timestamps .exit)) (now (lengths .exit)) (now (marks .exit)) (now (parity .exit)) (wiped (r .records) t);
+        } ≡ opened (asked base ssrc l d p n k) (stored (now (media .entry)) (now (timestamps .entry)) (now (lengths .entry)) (now (marks .entry)) (now (parity .entry)) t)) ⌝ }
 {
     let w = fresh(base, ssrc, l, d, p, n, k);
     let z = Sizes {
         media: media.len(),
         timestamps: timestamps.len(),
+        lengths: lengths.len(),
         marks: marks.len(),
         parity: parity.len(),
         records: len,
@@ -133,9 +155,9 @@ pub fn open(
     if fault != 0 {
         return refused(fault);
     }
-    clear(w, media, timestamps, marks, parity);
+    clear(w, media, timestamps, lengths, marks, parity);
     Opened {
-        answer: Answer::Done(0),
+        answer: Answer::Done(0, 0),
         window: w,
         records: w.k,
     }

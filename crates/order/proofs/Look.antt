@@ -11,6 +11,7 @@ use Rattle.sequence.specs.Lists.{upTo, any, count-le, length-upTo, and-split}
 use Rattle.sequence.specs.Wrap.{member, members}
 use Rattle.rtp.specs.Fec.{offsetOf, naOf}
 use Rattle.rtp.specs.Faults.{noRow}
+use Rattle.rtp.specs.Length.{goodLength, whole-high}
 use Rattle.window.specs.declared.Record.{Record}
 use Rattle.window.specs.declared.Window.{Window}
 use Rattle.window.specs.Limits.{width, leastMissing}
@@ -88,7 +89,7 @@ module _ (w : Window) (marks : List ℕ) (hs : List Row) (i : ℕ) (v : Record) 
       refused r 0 is (cond-false _ _ (ne-eqb (v .«in_use») 0 z) (and-left _ _ p), flag-no (used v) p, omega arith, λ g u. no-way g)
 
   module _ (r : Looked) (is : r ≡ record { good = false; used = 1; missing = 0 }) (one : v .«in_use» ≡ 1) where
-    bad-row : (ltb (slotAt hs i) (w .k) && (shapeGood w (v .stream) (v .snbase) && (not (any (names hs v) (upTo i)) && leb leastMissing (missingOf w marks v)))) ≡ false → Told w marks hs i (itAt hs i) (r .good) (r .used) (r .missing)
+    bad-row : (ltb (slotAt hs i) (w .k) && (shapeGood w (v .stream) (v .snbase) && (goodLength (w .p) (v .«payload_length») && (not (any (names hs v) (upTo i)) && leb leastMissing (missingOf w marks v))))) ≡ false → Told w marks hs i (itAt hs i) (r .good) (r .used) (r .missing)
     bad-row h = refused r 1 is (cond-false _ _ (ne-eqb (v .«in_use») 0 (λ z. omega arith)) (and-right (used v) _ h), flag-yes (used v) (eq-eqb (v .«in_use») 1 one), omega arith, λ g u. no-way g)
 
     -- a slot that is none of the window's records
@@ -99,25 +100,30 @@ module _ (w : Window) (marks : List ℕ) (hs : List Row) (i : ℕ) (v : Record) 
     pub shapeless-row : (b : Bool) → b ≡ shapeGood w (v .stream) (v .snbase) → not b ≡ true → Told w marks hs i (itAt hs i) (r .good) (r .used) (r .missing)
     shapeless-row b eb h = bad-row (and-right (ltb (slotAt hs i) (w .k)) _ (and-left _ _ (sym eb ∙ not-true b h)))
 
+    -- a length that no payload has
+    pub lengthless-row : (b : Bool) → b ≡ goodLength (w .p) (v .«payload_length») → not b ≡ true → Told w marks hs i (itAt hs i) (r .good) (r .used) (r .missing)
+    lengthless-row b eb h = bad-row (and-right (ltb (slotAt hs i) (w .k)) _ (and-right (shapeGood w (v .stream) (v .snbase)) _ (and-left _ _ (sym eb ∙ not-true b h))))
+
     -- a group that a row before has
     pub repeated-row : (b : Bool) → b ≡ any (names hs v) (upTo i) → b ≡ true → Told w marks hs i (itAt hs i) (r .good) (r .used) (r .missing)
-    repeated-row b eb h = bad-row (and-right (ltb (slotAt hs i) (w .k)) _ (and-right (shapeGood w (v .stream) (v .snbase)) _ (and-left _ _ (ap not (sym eb ∙ h)))))
+    repeated-row b eb h = bad-row (and-right (ltb (slotAt hs i) (w .k)) _ (and-right (shapeGood w (v .stream) (v .snbase)) _ (and-right (goodLength (w .p) (v .«payload_length»)) _ (and-left _ _ (ap not (sym eb ∙ h))))))
 
   -- a row in use whose group waits, or not
-  pub waiting-row : SetUp w → w .base < 2 ^ width → v .«in_use» ≡ 1 → (s : ℕ) → s ≡ slotAt hs i → s < w .k → (b : Bool) → b ≡ shapeGood w (v .stream) (v .snbase) → not b ≡ false → (d : Bool) → d ≡ any (names hs v) (upTo i) → d ≡ false
+  pub waiting-row : SetUp w → w .base < 2 ^ width → v .«in_use» ≡ 1 → (s : ℕ) → s ≡ slotAt hs i → s < w .k → (b : Bool) → b ≡ shapeGood w (v .stream) (v .snbase) → not b ≡ false → (y : Bool) → y ≡ goodLength (w .p) (v .«payload_length») → not y ≡ false → (d : Bool) → d ≡ any (names hs v) (upTo i) → d ≡ false
       → (c : ℕ) → c ≡ missingOf w marks v → Told w marks hs i (itAt hs i) (leb leastMissing c) 1 c
-  waiting-row u based one s es low b eb good d ed alone c ec =
+  waiting-row u based one s es low b eb good y ey sized d ed alone c ec =
       let l = lt-ltb (slotAt hs i) (w .k) (omega arith) in
       let h = sym eb ∙ not-false b good in
+      let z = sym ey ∙ not-false y sized in
       told
       (leb leastMissing c)
       1
       c (
-        cond-last _ _ _ (ne-eqb (v .«in_use») 0 (λ z. omega arith)) (and-all _ _ _ _ _ _ (eq-eqb (v .«in_use») 1 one) l h (sym ed ∙ alone) (ap (leb leastMissing) ec)),
+        cond-last _ _ _ (ne-eqb (v .«in_use») 0 (λ z. omega arith)) (and-all _ _ _ _ _ _ _ (eq-eqb (v .«in_use») 1 one) l h z (sym ed ∙ alone) (ap (leb leastMissing) ec)),
         flag-yes (used v) (eq-eqb (v .«in_use») 1 one),
         omega (arith, missing-few w u marks (v .stream) (v .snbase)),
-        λ g q. record { slot-low = omega arith; inside = shape-inside w based u (v .stream) (v .snbase) h; counted = ec },
+        λ g q. record { slot-low = omega arith; inside = shape-inside w based u (v .stream) (v .snbase) h; size-low = whole-high (w .p) (w .p) (v .«payload_length») z; counted = ec },
       )
     where
-      and-all : (o l h n x y : Bool) → o ≡ true → l ≡ true → h ≡ true → n ≡ false → y ≡ x → y ≡ (o && (l && (h && (not n && x))))
-      and-all o l h n x y eo el eh en e = rw (eo, el, eh, en) e
+      and-all : (o l h z n x y : Bool) → o ≡ true → l ≡ true → h ≡ true → z ≡ true → n ≡ false → y ≡ x → y ≡ (o && (l && (h && (z && (not n && x)))))
+      and-all o l h z n x y eo el eh ez en e = rw (eo, el, eh, ez, en) e

@@ -8,6 +8,7 @@ use lib.Dec.{eqb, leb, ltb}
 use lib.ListN.{length}
 use borrow.Author.Tests.{eqb-true, eqb-false, ne-eqb, le-leb, lt-leb, lt-ltb}
 use Rattle.sequence.specs.Lists.{upTo, all, any, count}
+use Rattle.rtp.specs.Length.{goodLength}
 use Rattle.window.specs.declared.Record.{Record}
 use Rattle.window.specs.declared.Window.{Window}
 use Rattle.window.specs.Limits.{leastMissing}
@@ -21,7 +22,7 @@ use Rattle.order.proofs.Agree.{all-same, any-same, count-same}
 
 -- a row is free or good, by its record, its slot, and whether a row before it names its group
 abbrev pub rowBy : Window → (marks : List ℕ) → Record → ℕ → Bool → Bool
-rowBy w marks v s b = cond (eqb (v .«in_use») 0) true (eqb (v .«in_use») 1 && (ltb s (w .k) && (shapeGood w (v .stream) (v .snbase) && (not b && leb leastMissing (missingOf w marks v)))))
+rowBy w marks v s b = cond (eqb (v .«in_use») 0) true (eqb (v .«in_use») 1 && (ltb s (w .k) && (shapeGood w (v .stream) (v .snbase) && (goodLength (w .p) (v .«payload_length») && (not b && leb leastMissing (missingOf w marks v))))))
 
 by-same : (w : Window) (marks : List ℕ) {v u : Record} {s r : ℕ} {b c : Bool} → v ≡ u → s ≡ r → b ≡ c → rowBy w marks v s b ≡ rowBy w marks u r c
 by-same w marks {v} {u} {s} {r} {b} {c} e f g = ap (λ (x : Record). rowBy w marks x s b) e ∙ ap (λ (x : ℕ). rowBy w marks u x b) f ∙ ap (λ (x : Bool). rowBy w marks u r x) g
@@ -58,17 +59,17 @@ free-good : (m : ℕ) (x : Bool) → m ≡ 0 → (leb m 1 && (not (eqb m 1) || x
 free-good m x e = rw (le-leb m 1 (omega arith), none-used m e)
 
 -- the test of a record by its mark is that of a row
-by-mark : (m : ℕ) (below shape alone waits : Bool) → below ≡ true
-    → (leb m 1 && (not (eqb m 1) || (shape && alone && waits))) ≡ cond (eqb m 0) true (eqb m 1 && (below && (shape && (alone && waits))))
-by-mark m below shape alone waits e = go (eqb m 0) refl (eqb m 1) refl where
-  go : (z : Bool) → eqb m 0 ≡ z → (o : Bool) → eqb m 1 ≡ o → (leb m 1 && (not o || (shape && alone && waits))) ≡ cond z true (o && (below && (shape && (alone && waits))))
+by-mark : (m : ℕ) (below shape size alone waits : Bool) → below ≡ true
+    → (leb m 1 && (not (eqb m 1) || (shape && size && alone && waits))) ≡ cond (eqb m 0) true (eqb m 1 && (below && (shape && (size && (alone && waits)))))
+by-mark m below shape size alone waits e = go (eqb m 0) refl (eqb m 1) refl where
+  go : (z : Bool) → eqb m 0 ≡ z → (o : Bool) → eqb m 1 ≡ o → (leb m 1 && (not o || (shape && size && alone && waits))) ≡ cond z true (o && (below && (shape && (size && (alone && waits)))))
   go true ez o eo = let h = eqb-true m 0 ez in rw (le-leb m 1 (omega arith), sym eo ∙ none-used m h)
-  go false ez true eo = let h = eqb-true m 1 eo in rw (le-leb m 1 (omega arith), e) (and-assoc shape alone waits)
+  go false ez true eo = let h = eqb-true m 1 eo in rw (le-leb m 1 (omega arith), e) (and-assoc (shape && size) alone waits ∙ and-assoc shape size (alone && waits))
   go false ez false eo = let h = eqb-false m 0 ez in let k = eqb-false m 1 eo in rw (lt-leb m 1 (omega arith))
 
-module _ (w : Window) (media timestamps marks parity : List ℕ) {t : List Record} {hs : List Row} (f : Fits t (w .k) hs) where
+module _ (w : Window) (media timestamps lengths marks parity : List ℕ) {t : List Record} {hs : List Row} (f : Fits t (w .k) hs) where
   abbrev S : Store
-  S = stored media timestamps marks parity (scatter hs t)
+  S = stored media timestamps lengths marks parity (scatter hs t)
 
   -- the record at the slot of a row is the row's
   row-is : (i : ℕ) → i < length hs → recordAt S (slotAt hs i) ≡ itAt hs i
@@ -90,8 +91,8 @@ module _ (w : Window) (media timestamps marks parity : List ℕ) {t : List Recor
   test-row : (i : ℕ) → i < length hs → test (slotAt hs i) ≡ rowGood w marks hs i
   test-row i l =
       let v = recordAt S (slotAt hs i) in
-      by-mark (v .«in_use») (ltb (slotAt hs i) (w .k)) (shapeGood w (v .stream) (v .snbase)) (isFirst w S (slotAt hs i)) (waiting w S (slotAt hs i)) (lt-ltb _ _ (within (f .apart) i l))
-      ∙ ap (λ (b : Bool). cond (eqb (v .«in_use») 0) true (eqb (v .«in_use») 1 && (ltb (slotAt hs i) (w .k) && (shapeGood w (v .stream) (v .snbase) && (b && leb leastMissing (missingOf w marks v)))))) (first-is i l)
+      by-mark (v .«in_use») (ltb (slotAt hs i) (w .k)) (shapeGood w (v .stream) (v .snbase)) (goodLength (w .p) (v .«payload_length»)) (isFirst w S (slotAt hs i)) (waiting w S (slotAt hs i)) (lt-ltb _ _ (within (f .apart) i l))
+      ∙ ap (λ (b : Bool). cond (eqb (v .«in_use») 0) true (eqb (v .«in_use») 1 && (ltb (slotAt hs i) (w .k) && (shapeGood w (v .stream) (v .snbase) && (goodLength (w .p) (v .«payload_length») && (b && leb leastMissing (missingOf w marks v))))))) (first-is i l)
       ∙ ap (λ (u : Record). rowBy w marks u (slotAt hs i) (any (names hs (itAt hs i)) (upTo i))) (row-is i l)
 
   -- the records are good where the rows are

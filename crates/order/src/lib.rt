@@ -78,6 +78,9 @@ fn look_at(w: Window, marks: &[u8], rows: &[u32], i: usize, fresh: bool) -> Look
     if !w.shape_good(v.stream, v.snbase) {
         return bad(1);
     }
+    if !rtp::good_length(w.p, rtp::wide(v.payload_length)) {
+        return bad(1);
+    }
     if repeats(rows, i, v, fresh) {
         return bad(1);
     }
@@ -133,14 +136,15 @@ fn rows_good(w: Window, marks: &[u8], rows: &mut [u32], m: usize) -> Found
     Found { good, used }
 }
 
-// The store is in order: marks, records and counts.
-fn in_order(w: Window, marks: &[u8], rows: &mut [u32], m: usize) -> bool
-    requires { ⌜ SetUp w × (w .n ≤ length (now marks)) × (length (hand (now rows)) ≡ m) ⌝ }
-    ensures { λ r. ⌜ Ordered w (now (marks .entry)) (hand (now (rows .entry))) (hand (now (rows .exit))) r ⌝ }
+// The store is in order: marks, lengths, records and counts.
+fn in_order(w: Window, lengths: &[u16], marks: &[u8], rows: &mut [u32], m: usize) -> bool
+    requires { ⌜ SetUp w × (w .n ≤ length (now lengths)) × (w .n ≤ length (now marks)) × (length (hand (now rows)) ≡ m) ⌝ }
+    ensures { λ r. ⌜ Ordered w (now (lengths .entry)) (now (marks .entry)) (hand (now (rows .entry))) (hand (now (rows .exit))) r ⌝ }
 {
     let found = rows_good(w, marks, rows, m);
-    (w.marks_good(marks) & found.good)
-        & ((w.present == w.count_present(marks)) & (w.in_use == found.used))
+    let counted = w.count_present(marks);
+    (counted.good & w.lengths_good(lengths, marks) & found.good)
+        & ((w.present == counted.ones) & (w.in_use == found.used))
 }
 
 // ---- refusals 1 to 5
@@ -160,12 +164,13 @@ pub fn standing_fault(
     w: Window,
     z: Sizes,
     short: bool,
+    lengths: &[u16],
     marks: &[u8],
     rows: &mut [u32],
     m: usize,
 ) -> u8
-    requires { ⌜ (z .marks ≡ length (now marks)) × (length (hand (now rows)) ≡ m) ⌝ }
-    ensures { λ r. ⌜ Stood w z short (now (marks .entry)) (hand (now (rows .entry))) (hand (now (rows .exit))) r ⌝ }
+    requires { ⌜ (z .lengths ≡ length (now lengths)) × (z .marks ≡ length (now marks)) × (length (hand (now rows)) ≡ m) ⌝ }
+    ensures { λ r. ⌜ Stood w z short (now (lengths .entry)) (now (marks .entry)) (hand (now (rows .entry))) (hand (now (rows .exit))) r ⌝ }
 {
     let fault = w.set_up_fault();
     if fault != 0 {
@@ -174,7 +179,7 @@ pub fn standing_fault(
     if w.short_store(z) | short {
         return 4;
     }
-    if !in_order(w, marks, rows, m) {
+    if !in_order(w, lengths, marks, rows, m) {
         return 5;
     }
     0

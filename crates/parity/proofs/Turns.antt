@@ -1,9 +1,10 @@
--- A turn of each loop: one timestamp more, some rows more. Assumes nothing.
+-- A turn of each loop: one timestamp more, one length more, some rows more. Assumes nothing.
 use mathlib.Core.Path.{_≡_, refl, sym, ap, _∙_}
 use mathlib.Core.Bool.{true, false, cond}
 use mathlib.Core.List.{List, [], _∷_, _++_, append-nil, map}
 use Prim.Native.Nat.{ℕ, zero, suc, _+_, _*_, _<_, _≤_}
 use native.Mathlib.Numerals.{add-one}
+use native.Mathlib.Decide.{decLt}
 use native.Mathlib.Omega.{arith}
 use lib.ListN.{length, getD, take, drop, set, take-append-drop, drop-of-length-le, length-take}
 use lib.Seq.{take-add, drop-at, drop-cons, take-suc, take-suc-set, take-take, drop-append-le, length-take-le}
@@ -26,6 +27,15 @@ pub one-timestamp : (f : ℕ → ℕ) (rows : List ℕ) (i with : ℕ) → i < l
 one-timestamp f rows i with h =
     xor-assoc with (xorAll (map f (take i rows))) (f (getD rows i 0))
     ∙ ap (bitXor with) (sym (ap xorAll (ap (map f) (take-more rows i h) ∙ map-append f (take i rows) (getD rows i 0 ∷ [])) ∙ xorAll-more (map f (take i rows)) (f (getD rows i 0))))
+
+-- ---- lengths
+-- each of the first i is p, and the one after them
+pub each-more : (f : ℕ → ℕ) (p i : ℕ) → ((k : ℕ) → k < i → f k ≡ p) → f i ≡ p → (k : ℕ) → k < i + 1 → f k ≡ p
+each-more f p i before here k h = go (decLt k i)
+  where
+    go : Dec (k < i) → f k ≡ p
+    go (yes q) = before k q
+    go (no q) = let e : k ≡ i = omega arith in rw e here
 
 -- ---- rows
 parts-append : (s l m : List ℕ) (at n : ℕ) (d : List ℕ) → xorParts s (l ++ m) at n d ≡ xorParts s m at n (xorParts s l at n d)

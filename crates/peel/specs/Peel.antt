@@ -5,7 +5,7 @@ use mathlib.Core.Path.{_≡_, refl, sym, _∙_, ap}
 use mathlib.Core.Logic.{_≢_, _⊎_, inl, inr, ⊎-elim}
 use mathlib.Core.Bool.{Bool, true, false, true≢false}
 use mathlib.Core.Option.{Option, none, some}
-use mathlib.Core.List.{List, [], _∷_, _++_, List·Memᴰ, List·Memᴰ·head, List·Memᴰ·tail, List·Memᴰ·not-nil, List·Memᴰ·eq-of-singleton, List·Memᴰ·cases-cons, Memᴰ·append-right}
+use mathlib.Core.List.{List, [], _∷_, _++_, List·Memᴰ, List·Memᴰ·head, List·Memᴰ·tail, List·Memᴰ·not-nil, List·Memᴰ·eq-of-singleton, List·Memᴰ·cases-cons, List·Memᴰ·append-cases, Memᴰ·append-left, Memᴰ·append-right}
 use Prim.Native.Nat.{ℕ}
 use Rattle.xor.specs.Laws.{Xor}
 use Rattle.peel.specs.Group.{total, total-ext, total-out, solve, count, None, count-one}
@@ -123,10 +123,10 @@ module _ {K C X : Type 0} (P : Code K C X) where
   abbrev pub Spoilt : View K C X → K → C → Type 0
   Spoilt s k v = (i : ℕ) × (x : X) × Rebuild s k v i x × (P .fits v x ≡ false)
 
-  -- the receiver rebuilds any positions that it can, and lets go of any checks that are full or spoilt
+  -- the receiver rebuilds any positions that it can, with packets that fit, and lets go of any checks that are full or spoilt
   pub record Step (s t : View K C X) : Type 0 where
     pub keeps : Keeps s t
-    pub new : (i : ℕ) (x : X) → t .slot i ≡ some x → (s .slot i ≡ some x) ⊎ ((k : K) × (v : C) × Rebuild s k v i x)
+    pub new : (i : ℕ) (x : X) → t .slot i ≡ some x → (s .slot i ≡ some x) ⊎ ((k : K) × (v : C) × Rebuild s k v i x × (P .fits v x ≡ true))
     pub sub : (k : K) (v : C) → t .held k v → s .held k v
     pub release : (k : K) (v : C) → s .held k v → t .held k v ⊎ (Full t k ⊎ Spoilt s k v)
 
@@ -158,18 +158,45 @@ module _ {K C X : Type 0} (P : Code K C X) where
   steps-run stop = done
   steps-run (go-on a q) = made a (steps-run q)
 
+  -- a receiver that has taken in some of a list of offers, and finds a check spoilt
+  pub record Spoiling (s : View K C X) (os : List (Offer K C X)) : Type 1 where
+    pub taken : List (Offer K C X)
+    pub among : (p : Offer K C X) → List·Memᴰ p taken → List·Memᴰ p os
+    pub then : View K C X
+    pub runs : Runs s taken then
+    pub key : K
+    pub carries : C
+    pub spoilt : Spoilt then key carries
+
+  -- later on, it is found all the same
+  pub spoiling-then : {os ps : List (Offer K C X)} {s t : View K C X} → Runs s os t → Spoiling t ps → Spoiling s (os ++ ps)
+  spoiling-then {os} {ps} r b = record {
+    taken = os ++ b .taken;
+    among = λ p m. ⊎-elim (Memᴰ·append-left ps) (λ n. Memᴰ·append-right os (b .among p n)) (List·Memᴰ·append-cases os m);
+    then = b .then;
+    runs = runs-then r (b .runs);
+    key = b .key;
+    carries = b .carries;
+    spoilt = b .spoilt;
+  }
+
+  -- and of more offers
+  pub spoiling-more : {os : List (Offer K C X)} (ps : List (Offer K C X)) {s : View K C X} → Spoiling s os → Spoiling s (os ++ ps)
+  spoiling-more ps b =
+      record { taken = b .taken; among = λ p m. Memᴰ·append-left ps (b .among p m); then = b .then; runs = b .runs; key = b .key; carries = b .carries; spoilt = b .spoilt }
+
   -- ---- what offers determine
 
-  -- x can be worked out at position i: it was received, or it is the xor of a received check and of its other members
+  -- x can be worked out at position i: it was received, or it is the xor of a received check and of its other members, and fits the check
   pub data Known (R : Set (Offer K C X)) : ℕ → X → Type 0 where
     received : {i : ℕ} {x : X} → R (media i x) → Known R i x
     rebuilt : {i : ℕ} {x : X} (k : K) (v : C) (f : ℕ → X) (a b : List ℕ) → R (check k v) → P .group k ≡ a ++ (i ∷ b)
-        → ((j : ℕ) → List·Memᴰ j (a ++ b) → Known R j (f j)) → x ≡ P .xor (P .value v) (sum P f (a ++ b)) → Known R i x
+        → ((j : ℕ) → List·Memᴰ j (a ++ b) → Known R j (f j)) → x ≡ P .xor (P .value v) (sum P f (a ++ b)) → P .fits v x ≡ true → Known R i x
 
   -- more offers determine no less
   pub known-mono : {R Q : Set (Offer K C X)} → Within R Q → {i : ℕ} {x : X} → Known R i x → Known Q i x
   known-mono sub (received m) = received (sub _ m)
-  known-mono sub (rebuilt k v f a b m e r q) = rebuilt k v f a b (sub _ m) e (λ j n. known-mono sub (r j n)) q
+  known-mono sub (rebuilt k v f a b m e r q z) = rebuilt k v f a b (sub _ m) e (λ j n. known-mono sub (r j n)) q z
 
   -- a stopping set: "some set of media packets, none received, of which no received parity packet covers exactly one" (00)
   pub record Stopping (R : Set (Offer K C X)) (S : ℕ → Bool) : Type 0 where
@@ -186,7 +213,7 @@ module _ {K C X : Type 0} (P : Code K C X) where
   -- no position of a stopping set is determined
   pub known-outside : {R : Set (Offer K C X)} {S : ℕ → Bool} → Stopping R S → {i : ℕ} {x : X} → Known R i x → S i ≡ false
   known-outside st (received m) = st .unreceived _ _ m
-  known-outside {S = S} st (rebuilt {i} k v f a b m e r q) = go (S i) refl (λ j n. known-outside st (r j n))
+  known-outside {S = S} st (rebuilt {i} k v f a b m e r q z) = go (S i) refl (λ j n. known-outside st (r j n))
     where
       go : (c : Bool) → S i ≡ c → None S (a ++ b) → S i ≡ false
       go false h n = h
@@ -207,14 +234,11 @@ module _ {K C X : Type 0} (P : Code K C X) where
   pub sound-mono : {R Q : Set (Offer K C X)} {s : View K C X} → Within R Q → Sound R s → Sound Q s
   sound-mono sub v = record { known = λ i x e. known-mono sub (v .known i x e); kept = λ k w h. sub _ (v .kept k w h) }
 
-  -- what a rebuild gives is determined
-  rebuild-known : {R : Set (Offer K C X)} {s : View K C X} → Sound R s → {k : K} {w : C} {i : ℕ} {x : X} → Rebuild s k w i x → Known R i x
-  rebuild-known v {k} {w} r = rebuilt k w (r .f) (r .left) (r .right) (v .kept _ _ (r .held)) (r .is) (λ j m. v .known j (r .f j) (r .rest j m)) (r .adds)
-
   -- a step keeps it
   pub sound-step : {R : Set (Offer K C X)} {s t : View K C X} → Sound R s → Step s t → Sound R t
   sound-step v st = record {
-    known = λ i x e. ⊎-elim (v .known i x) (λ r. rebuild-known v (r .2)) (st .new i x e);
+    known = λ i x e. ⊎-elim (v .known i x)
+        (λ q. let r = q .2 in rebuilt (q .0) (q .1) (r .f) (r .left) (r .right) (v .kept _ _ (r .held)) (r .is) (λ j m. v .known j (r .f j) (r .rest j m)) (r .adds) (q .3)) (st .new i x e);
     kept = λ k w h. v .kept k w (st .sub k w h);
   }
 
@@ -278,21 +302,27 @@ module _ {K C X : Type 0} (P : Code K C X) where
       here q (inr m) = rw (List·Memᴰ·eq-of-singleton m) (st .here)
 
   module _ (sent : ℕ → X) where
+    -- an unaltered check gives what was sent, from what was sent at its other members
+    gives-sent : (k : K) (v : C) (f : ℕ → X) (a : List ℕ) (i : ℕ) (b : List ℕ) (x : X) → Unaltered sent (check k v) → P .group k ≡ a ++ (i ∷ b)
+        → ((j : ℕ) → List·Memᴰ j (a ++ b) → f j ≡ sent j) → x ≡ P .xor (P .value v) (sum P f (a ++ b)) → x ≡ sent i
+    gives-sent k v f a i b x ok e same q =
+        let t = total-ext (P .xor) (P .zeros) f sent (a ++ b) same in
+        let u : P .value v ≡ sum P sent (a ++ (i ∷ b)) = rw e at (ok .0) in
+        rw (q, t, u, total-out (P .xor) (P .zeros) (P .laws)) (solve (P .xor) (P .zeros) (P .laws) _ _)
+
     -- unaltered offers determine only what was sent
     pub known-sent : {R : Set (Offer K C X)} → ((p : Offer K C X) → R p → Unaltered sent p) → {i : ℕ} {x : X} → Known R i x → x ≡ sent i
     known-sent ok (received m) = ok _ m
-    known-sent ok (rebuilt {i} k v f a b m e r q) =
-        let t = total-ext (P .xor) (P .zeros) f sent (a ++ b) (λ j n. known-sent ok (r j n)) in
-        let u : P .value v ≡ sum P sent (a ++ (i ∷ b)) = rw e at (ok _ m .0) in
-        rw (q, t, u, total-out (P .xor) (P .zeros) (P .laws)) (solve (P .xor) (P .zeros) (P .laws) _ _)
+    known-sent ok (rebuilt {i} {x} k v f a b m e r q z) = gives-sent k v f a i b x (ok _ m) e (λ j n. known-sent ok (r j n)) q
 
     module _ {R : Set (Offer K C X)} (ok : (p : Offer K C X) → R p → Unaltered sent p) where
       -- so no rebuild is spoilt
       pub unspoilt : {s : View K C X} → Sound R s → (k : K) (w : C) → Spoilt s k w → ⊥
       unspoilt v k w (i, x, r, e) =
-          let q = known-sent ok (rebuild-known v r) in
+          let u : Unaltered sent (check k w) = ok (check k w) (v .kept k w (r .held)) in
+          let q = gives-sent k w (r .f) (r .left) i (r .right) x u (r .is) (λ j m. known-sent ok (v .known j (r .f j) (r .rest j m))) (r .adds) in
           let m : List·Memᴰ i (P .group k) = rw (r .is) (Memᴰ·append-right (r .left) (List·Memᴰ·head refl)) in
-          true≢false (sym (ok (check k w) (v .kept k w (r .held)) .1 i m) ∙ ap (P .fits w) (sym q) ∙ e)
+          true≢false (sym (u .1 i m) ∙ ap (P .fits w) (sym q) ∙ e)
 
       -- and a step loses nothing
       pub inv-step : {s t : View K C X} → Inv R s → Step s t → Inv R t

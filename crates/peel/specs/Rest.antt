@@ -7,7 +7,7 @@ use Prim.Native.Nat.{ℕ, zero, suc, _+_, _≤_, _<_}
 use native.Mathlib.Omega.{arith}
 use lib.ListN.{length}
 use Rattle.peel.specs.Group.{count, count-one}
-use Rattle.peel.specs.Peel.{Code, View, gone, miss, there, miss-keeps, Rebuild, Step, Steps, stop, go-on}
+use Rattle.peel.specs.Peel.{Code, View, gone, miss, there, miss-keeps, Rebuild, Spoilt, Step, Steps, stop, go-on, done, steps-run, Spoiling, spoiling-then}
 
 -- at rest: of no check in hand exactly one member is missing
 abbrev pub Still : {K C X : Type 0} → Code K C X → View K C X → Type 0
@@ -48,17 +48,20 @@ module _ {K C X : Type 0} (P : Code K C X) where
   still-steps r stop = r
   still-steps r (go-on a q) = still-steps (still-step r a) q
 
--- any engine: what its rounds need and keep (fit), what there is to spend (left) and what was done (did). A round finds the receiver at
--- rest and does nothing, or it does one thing and spends something
+-- any engine: what its rounds need and keep (fit), what there is to spend (left), what was done (did) and how many checks were found spoilt.
+-- A round finds the receiver at rest and does nothing, or it does one thing and spends something; one that counts a check as spoilt has found
+-- one so
 pub record Engine {K C X : Type 0} (P : Code K C X) (A : Type 0) : Type 1 where
   pub see : A → View K C X
   pub fit : A → Type 0
   pub one : A → A
   pub left : A → ℕ
   pub did : A → ℕ
+  pub spoilt : A → ℕ
   pub keeps : (a : A) → fit a → fit (one a)
   pub steps : (a : A) → fit a → Steps P (see a) (see (one a))
   pub work : (a : A) → fit a → ((one a ≡ a) × Still P (see a)) ⊎ ((left (one a) < left a) × (did (one a) ≡ suc (did a)))
+  pub clear : (a : A) → fit a → (spoilt (one a) ≡ spoilt a) ⊎ ((k : K) × (v : C) × Spoilt P (see a) k v)
 
 module _ {K C X : Type 0} (P : Code K C X) {A : Type 0} (E : Engine P A) where
   -- n rounds keep what a round keeps
@@ -72,6 +75,14 @@ module _ {K C X : Type 0} (P : Code K C X) {A : Type 0} (E : Engine P A) where
   unfolding rounds
   rounds-steps zero a h = stop
   rounds-steps (suc n) a h = steps-then P (E .steps a h) (rounds-steps n (E .one a) (E .keeps a h))
+
+  -- n rounds count no check as spoilt, or one was found so
+  pub rounds-clear : (n : ℕ) (a : A) → E .fit a → (E .spoilt (rounds (E .one) n a) ≡ E .spoilt a) ⊎ Spoiling P (E .see a) []
+  unfolding rounds
+  rounds-clear zero a h = inl refl
+  rounds-clear (suc n) a h = ⊎-elim
+      (λ e. ⊎-elim (λ r. inl (r ∙ e)) (λ b. inr (spoiling-then P (steps-run P (E .steps a h)) b)) (rounds-clear n (E .one a) (E .keeps a h)))
+      (λ z. inr (record { taken = []; among = λ p m. m; then = E .see a; runs = done; key = z .0; carries = z .1; spoilt = z .2 })) (E .clear a h)
 
   -- as many rounds as there is to spend, or more, bring the receiver to rest
   pub rounds-still : (n : ℕ) (a : A) → E .fit a → E .left a ≤ n → Still P (E .see (rounds (E .one) n a))

@@ -2,14 +2,14 @@
 -- what it has was sent (right), what it lacks no engine could rebuild (missing-iff), and neither the order of the offers nor
 -- the engine matters (same, engines-agree).
 use mathlib.Core.Path.{_≡_, refl, sym, _∙_, ap}
-use mathlib.Core.Logic.{_↔_, _≢_, _⊎_, inl, inr}
+use mathlib.Core.Logic.{_↔_, _≢_, _⊎_, inl, inr, ⊎-elim}
 use mathlib.Core.Bool.{Bool, true, false, true≢false}
 use mathlib.Core.Option.{Option, none, some}
 use mathlib.Core.List.{List, []}
 use Prim.Native.Nat.{ℕ}
 use native.Mathlib.Omega.{arith}
 use Rattle.peel.specs.Group.{count, count-none}
-use Rattle.peel.specs.Peel.{Code, Offer, media, check, Set, Plus, Covered, View, gone, miss, there, Has, Full, Steps, Runs, steps-run, Stopping, stopping-fewer, known-outside, Sound, Unaltered, known-sent, Inv, inv-has, inv-runs}
+use Rattle.peel.specs.Peel.{Code, Offer, media, check, Set, Plus, Covered, View, gone, miss, there, Has, Full, Steps, Runs, steps-run, Spoiling, Stopping, stopping-fewer, known-outside, Sound, Unaltered, known-sent, Inv, inv-has, unspoilt, inv-runs}
 use Rattle.peel.specs.Rest.{Still, agree}
 
 module _ {K C X : Type 0} (P : Code K C X) where
@@ -59,6 +59,13 @@ module _ {K C X : Type 0} (P : Code K C X) where
   -- unaltered; so at rest the theorems above hold of it
   pub run-inv : (sent : ℕ → X) {s t : View K C X} {os : List (Offer K C X)} → ((p : Offer K C X) → Plus (Has s) os p → Unaltered P sent p) → Runs P s os t → Inv P (Plus (Has s) os) t
   run-inv sent {s} ok r = inv-runs P sent ok (inv-has P s) r
+
+  -- and no check is ever found spoilt
+  pub never-spoilt : (sent : ℕ → X) {s : View K C X} {os : List (Offer K C X)} → ((p : Offer K C X) → Plus (Has s) os p → Unaltered P sent p) → Spoiling P s os → ⊥
+  never-spoilt sent {s} {os} ok b = unspoilt P sent some (run-inv sent some (b .runs) .sound) (b .key) (b .carries) (b .spoilt)
+    where
+      some : (p : Offer K C X) → Plus (Has s) (b .taken) p → Unaltered P sent p
+      some p m = ok p (⊎-elim inl (λ n. inr (b .among p n)) m)
 
   -- two engines, each at its end from one receiver that has only unaltered packets, leave the same packets
   pub engines-agree : (sent : ℕ → X) (s t u : View K C X) → ((p : Offer K C X) → Has s p → Unaltered P sent p)

@@ -6,12 +6,12 @@ use Prim.Native.Nat.{ℕ, zero, suc, _+_, _≤_}
 use native.Mathlib.Nat.{zero-add}
 use native.Mathlib.Omega.{arith}
 use lib.Dec.{ltb}
-use lib.ListN.{length, take, drop, replicate, length-append}
-use lib.Seq.{paste, sets, sets-eq, length-paste, length-take-le, take-length, drop-at}
+use lib.ListN.{length, take, drop, length-append}
+use lib.Seq.{paste, sets, sets-eq, length-paste, length-take-le, drop-at}
 use borrow.Author.Tests.{lt-ltb, le-ltb}
 use Rattle.sequence.specs.Lists.{any, keep, count, or-split, any-count}
-use Rattle.xor.specs.Xor.{zipXor}
-use Rattle.xor.specs.Laws.{zip-zero}
+use Rattle.xor.specs.Xor.{padded}
+use Rattle.xor.specs.Padded.{padded-front}
 use Rattle.calls.specs.Call.{over}
 
 -- p elements of y pasted behind n places, and the n elements of h put there
@@ -27,13 +27,11 @@ laid h y out n p eh ho hy =
     ∙ sym (append-assoc h (take p y) (drop (n + p) out))
     ∙ ap (λ (k : ℕ). h ++ take p y ++ drop k out) (sym size)
 
--- the same where y is x xored into p zeros
-pub laid-sum : (h x out : List ℕ) (n p : ℕ) → length h ≡ n → n + p ≤ length out → length x ≡ p → sets (paste out n (zipXor (replicate p 0) x) p) 0 h ≡ over (h ++ x) out
-laid-sum h x out n p eh ho ex =
-    let zeros : zipXor (replicate p 0) x ≡ x = ap (λ (k : ℕ). zipXor (replicate k 0) x) (sym ex) ∙ zip-zero x in
-    ap (λ (l : List ℕ). sets (paste out n l p) 0 h) zeros
-    ∙ laid h x out n p eh ho (omega arith)
-    ∙ ap (λ (l : List ℕ). over (h ++ l) out) (ap (λ (k : ℕ). take k x) (sym ex) ∙ take-length x)
+-- the front of a payload that was given zeros up to p bytes
+pub front : (n p : ℕ) (y : List ℕ) → n ≤ p → n ≤ length y → take n y ≡ take n (padded p (take n y))
+front n p y h hy =
+    let l = length-take-le n y hy in
+    sym (padded-front p (take n y) (omega arith)) ∙ ap (λ (k : ℕ). take k (padded p (take n y))) l
 
 -- where a test holds of no element, the elements of which it does not hold are all
 pub keep-all : (test : ℕ → Bool) (l : List ℕ) → any test l ≡ false → keep (λ i. not (test i)) l ≡ l

@@ -1,35 +1,35 @@
 -- The ways through `readOut` and `wroteParity`, each from what the code finds there. Assumes nothing.
-use mathlib.Core.Path.{_≡_, refl, sym, ap, _∙_}
+use mathlib.Core.Path.{_≡_, refl, sym, ap, ap₂, _∙_}
 use mathlib.Core.Bool.{Bool, true, false, cond, not}
 use mathlib.Core.List.{List, [], _∷_, _++_, map}
 use Prim.Native.Nat.{ℕ, _+_, _*_, _%_, _<_, _≤_}
 use native.Mathlib.Omega.{arith}
 use lib.Dec.{eqb, ltb}
-use lib.ListN.{length, getD, take, drop, replicate, length-drop}
+use lib.ListN.{length, getD, take, drop, length-drop}
 use lib.Seq.{paste, sets}
 use lib.Bits.{xor-zero-l}
 use borrow.Author.Tests.{lt-ltb, le-ltb, eq-eqb, ne-eqb, not-false}
 use Rattle.answer.specs.declared.Answer.the-variants.{Done, Refused}
 use Rattle.answer.specs.First.{first, first-hit, first-past, first-end, first-none}
-use Rattle.xor.specs.Xor.{zipXor, xorAll, xorPayloads}
+use Rattle.xor.specs.Xor.{xorAll, xorPayloads, padded}
 use Rattle.rtp.specs.Rtp.{rtpHeaderSize, mediaType, parityType, rtpHeader}
 use Rattle.rtp.specs.Fec.{parityHeaderSize, fecHeader, fecBytes, offsetOf, naOf, byNa}
-use Rattle.parity.specs.Sum.{rowAt, length-payloads, Ends}
+use Rattle.parity.specs.Own.{length-own, length-sum}
 use Rattle.window.specs.declared.Record.{Record}
 use Rattle.window.specs.declared.Sizes.{Sizes}
 use Rattle.window.specs.declared.Window.{Window}
-use Rattle.window.specs.Store.{Store, stored}
+use Rattle.window.specs.Store.{Store, stored, timestampAt, lengthAt, payloadAt}
 use Rattle.window.specs.Group.{position, group, inside, isMissing, present}
-use Rattle.calls.specs.Content.{timestampOver, payloadOver}
-use Rattle.calls.specs.Datagram.{Outer}
-use Rattle.calls.specs.Call.{Written, standingTests, over, readTests, readOut, writeTests, wroteParity}
+use Rattle.calls.specs.Content.{contentAt, longest, numberOver}
+use Rattle.calls.specs.Datagram.{mediaPacket, Outer}
+use Rattle.calls.specs.Call.{Written, standingTests, over, readTests, readOut, writeTests, parityOf, wroteParity}
 use Rattle.calls.specs.Standing.{standing-known, standing-stops, standing-goes}
 use Rattle.group.proofs.Rows.{row-ends}
 use Rattle.table.specs.View.{Row, scatter}
 use Rattle.table.specs.Apart.{length-scatter}
-use Rattle.order.specs.Stands.{Taken, Stood}
+use Rattle.order.specs.Stands.{Taken, Stands, Stood}
 use Rattle.read.specs.Tests.{sizes, groupTests}
-use Rattle.read.proofs.Lay.{laid, laid-sum, keep-all}
+use Rattle.read.proofs.Lay.{laid, front, keep-all}
 
 -- a call that is refused leaves the output
 abbrev pub no : ℕ → Window → List ℕ → Written
@@ -37,18 +37,22 @@ no r w out = record { answer = Refused r; window = w; out = out }
 
 -- and one that is done has written to it
 abbrev pub yes : ℕ → Window → List ℕ → Written
-yes k w out = record { answer = Done k; window = w; out = out }
+yes k w out = record { answer = Done k 0; window = w; out = out }
 
 -- ---- refusals 1 to 5
 
 -- whether the output is too short, as the code finds it
-pub short-is : {w : Window} {z : Sizes} {marks : List ℕ} {hs hs′ : List Row} {r : ℕ} (a b : Bool) → a ≡ b → Stood w z a marks hs hs′ r → Stood w z b marks hs hs′ r
+pub short-is : {w : Window} {z : Sizes} {lengths marks : List ℕ} {hs hs′ : List Row} {r : ℕ} (a b : Bool) → a ≡ b → Stood w z a lengths marks hs hs′ r → Stood w z b lengths marks hs hs′ r
 short-is a b e s = rw e at s
 
 -- what the code finds is what they say of every table
-pub said : (w : Window) (media timestamps marks parity : List ℕ) (len : ℕ) (hs hs′ : List Row) (room need r : ℕ) → Stood w (sizes media timestamps marks parity len) (ltb room need) marks hs hs′ r
-    → (t : List Record) → length t ≡ len → Taken t (w .k) hs → r ≡ first (standingTests w (stored media timestamps marks parity (scatter hs t)) room need)
-said w media timestamps marks parity len hs hs′ room need r s t e k = s .is media timestamps parity t (rw (length-scatter hs t, e)) k
+pub said : (w : Window) (media timestamps lengths marks parity : List ℕ) (len : ℕ) (hs hs′ : List Row) (room need r : ℕ) → Stood w (sizes media timestamps lengths marks parity len) (ltb room need) lengths marks hs hs′ r
+    → (t : List Record) → length t ≡ len → Taken t (w .k) hs → r ≡ first (standingTests w (stored media timestamps lengths marks parity (scatter hs t)) room need)
+said w media timestamps lengths marks parity len hs hs′ room need r s t e k = s .is media timestamps parity t (rw (length-scatter hs t, e)) k
+
+-- behind them: what a position holds is no longer than P
+pub held-low : {w : Window} {z : Sizes} {short : Bool} {hs : List Row} (lengths marks : List ℕ) → Stands w z short lengths marks hs → (i : ℕ) → i < w .n → (getD marks i 0 ≡ 0 → ⊥) → (size : ℕ) → size ≡ getD lengths i 0 → size ≤ w .p
+held-low lengths marks s i below held size e = rw e (s .lengths-low i below (ne-eqb (getD marks i 0) 0 held))
 
 -- ---- reading out
 module _ (w : Window) (number : ℕ) (s : Store) (out : List ℕ) where
@@ -80,24 +84,24 @@ module _ (w : Window) (number : ℕ) (s : Store) (out : List ℕ) where
       read-missing h = read-no 17 (inner 17 (first-hit 17 (isMissing (s .marks) i) [] (eq-eqb (getD (s .marks) i 0) 0 h))) (λ q. omega arith)
 
       -- no test applies
-      read-yes : 0 ≡ first (readTests w number s out)
-          → yes (rtpHeaderSize + w .p) w (over (rtpHeader mediaType number (getD (s .timestamps) (position w number) 0) (w .ssrc) ++ take (w .p) (drop (position w number * w .p) (s .media))) out) ≡ readOut w number s out
+      read-yes : 0 ≡ first (readTests w number s out) → (size : ℕ) (datagram : List ℕ) → size ≡ lengthAt s (position w number) → datagram ≡ mediaPacket number (w .ssrc) (contentAt w s (position w number))
+          → yes (rtpHeaderSize + size) w (over datagram out) ≡ readOut w number s out
       unfolding readOut
-      read-yes q = rw (← q)
+      read-yes q size datagram en ed = rw (← q, en, ed)
 
       -- the payload copied behind the header, then the header written
-      pub read-done : (getD (s .marks) i 0 ≡ 0 → ⊥) → (one two : List ℕ) → one ≡ paste out rtpHeaderSize (drop (i * w .p) (s .media)) (w .p)
-          → two ≡ sets one 0 (rtpHeader mediaType number (getD (s .timestamps) i 0) (w .ssrc)) → yes (rtpHeaderSize + w .p) w two ≡ readOut w number s out
-      read-done h one two e1 e2 =
+      pub read-done : (getD (s .marks) i 0 ≡ 0 → ⊥) → (size : ℕ) → size ≡ lengthAt s i → size ≤ w .p → (one two : List ℕ) → one ≡ paste out rtpHeaderSize (drop (i * w .p) (s .media)) size
+          → two ≡ sets one 0 (rtpHeader mediaType number (timestampAt s i) (w .ssrc)) → yes (rtpHeaderSize + size) w two ≡ readOut w number s out
+      read-done h size en low one two e1 e2 =
           let g = standing-known w s (length out) (rtpHeaderSize + w .p) r e z in
           let ends = row-ends i (w .n) (w .p) (length (s .media)) below (g .sized .media-long) in
-          let long : w .p ≤ length (drop (i * w .p) (s .media)) = simp length-drop (omega arith) in
-          ap (λ (t : List ℕ). yes (rtpHeaderSize + w .p) w t)
-          (e2
-          ∙ ap (λ (t : List ℕ). sets t 0 (rtpHeader mediaType number (getD (s .timestamps) i 0) (w .ssrc))) e1
-          ∙ laid (rtpHeader mediaType number (getD (s .timestamps) i 0) (w .ssrc)) (drop (i * w .p) (s .media)) out rtpHeaderSize (w .p) refl (g .fits) long
-          ∙ ap (λ (j : ℕ). over (rtpHeader mediaType number (getD (s .timestamps) j 0) (w .ssrc) ++ take (w .p) (drop (j * w .p) (s .media))) out) ei)
-          ∙ read-yes (inner 0 (first-past 0 17 (isMissing (s .marks) i) [] (ne-eqb (getD (s .marks) i 0) 0 h) first-end))
+          let y : List ℕ = drop (i * w .p) (s .media) in
+          let long : size ≤ length y = simp length-drop (omega arith) in
+          let head : List ℕ = rtpHeader mediaType number (timestampAt s i) (w .ssrc) in
+          let is : head ++ take size y ≡ mediaPacket number (w .ssrc) (contentAt w s (position w number)) =
+          ap (λ (l : List ℕ). head ++ l) (front size (w .p) y low long ∙ ap (λ (n : ℕ). take n (padded (w .p) (take n y))) en) ∙ ap (λ (j : ℕ). mediaPacket number (w .ssrc) (contentAt w s j)) ei in
+          ap (λ (t : List ℕ). yes (rtpHeaderSize + size) w t) (e2 ∙ ap (λ (t : List ℕ). sets t 0 head) e1 ∙ laid head y out rtpHeaderSize size refl (omega (arith, g .fits)) long)
+          ∙ read-yes (inner 0 (first-past 0 17 (isMissing (s .marks) i) [] (ne-eqb (getD (s .marks) i 0) 0 h) first-end)) size (head ++ take size y) (en ∙ ap (lengthAt s) ei) is
 
 -- ---- writing parity
 
@@ -108,6 +112,10 @@ lies-inside w stream snbase marks k f y = not-false (inside w stream snbase) (fi
 -- and all of it is there
 whole : (w : Window) (stream snbase : ℕ) (marks : List ℕ) (k : ℕ) → k ≡ first (groupTests w stream snbase marks) → k ≡ 0 → present marks (group w stream snbase) ≡ group w stream snbase
 whole w stream snbase marks k f y = keep-all (isMissing marks) (group w stream snbase) (first-none (groupTests w stream snbase marks) (tt, (tt, (tt, tt))) (sym f ∙ y) .1 .1 .0)
+
+-- numbers xored over a group of which all is there, from 0 on
+summed : (part marks group : List ℕ) → present marks group ≡ group → numberOver part marks group 0 ≡ xorAll (map (λ i. getD part i 0) group)
+summed part marks group all = xor-zero-l (xorAll (map (λ i. getD part i 0) (present marks group))) ∙ ap (λ (l : List ℕ). xorAll (map (λ i. getD part i 0) l)) all
 
 module _ (stream : ℕ) (w : Window) (snbase : ℕ) (o : Outer) (s : Store) (out : List ℕ) where
   -- a test applies
@@ -130,36 +138,41 @@ module _ (stream : ℕ) (w : Window) (snbase : ℕ) (o : Outer) (s : Store) (out
 
     module _ (y : k ≡ 0) where
       -- no test applies
-      write-yes : (datagram : List ℕ) → datagram ≡ rtpHeader parityType (o .sequence) (o .timestamp) (o .ssrc) ++ fecHeader stream (w .l) (w .d) (w .p) snbase (xorAll (map (λ i. getD (s .timestamps) i 0) (group w stream snbase))) ++ xorPayloads (w .p) (map (rowAt (w .p) (s .media)) (group w stream snbase))
-          → yes (parityHeaderSize + w .p) w (over datagram out) ≡ wroteParity stream w snbase o s out
+      write-yes : (size : ℕ) (datagram : List ℕ) → size ≡ longest (map (lengthAt s) (group w stream snbase)) → datagram ≡ parityOf w o stream snbase s
+          → yes (parityHeaderSize + size) w (over datagram out) ≡ wroteParity stream w snbase o s out
       unfolding wroteParity
-      write-yes datagram q = rw (← write-goes, y, q)
+      write-yes size datagram ez ed = rw (← write-goes, y, ez, ed)
 
-      -- the payloads xored into zeros and laid behind the headers, then the headers written
-      pub write-done : Ends (w .p) (s .media) (group w stream snbase) → (recovery : ℕ) (one two : List ℕ)
-          → recovery ≡ timestampOver (s .timestamps) (s .marks) (group w stream snbase) 0
-          → one ≡ paste out parityHeaderSize (payloadOver (w .p) (s .media) (s .marks) (group w stream snbase) (replicate (w .p) 0)) (w .p)
-          → two ≡ sets one 0 (rtpHeader parityType (o .sequence) (o .timestamp) (o .ssrc) ++ fecHeader stream (w .l) (w .d) (w .p) snbase recovery)
-          → yes (parityHeaderSize + w .p) w two ≡ wroteParity stream w snbase o s out
-      write-done ends recovery one two es e1 e2 =
+      -- the exclusive-or of the payloads laid behind the headers, as long as the longest of them, then the headers written
+      pub write-done : (stamps lengths size : ℕ) (one two : List ℕ)
+          → stamps ≡ numberOver (s .timestamps) (s .marks) (group w stream snbase) 0
+          → lengths ≡ numberOver (s .lengths) (s .marks) (group w stream snbase) 0
+          → size ≡ longest (map (lengthAt s) (present (s .marks) (group w stream snbase))) → size ≤ w .p
+          → one ≡ paste out parityHeaderSize (xorPayloads (w .p) (map (payloadAt w s) (present (s .marks) (group w stream snbase)))) size
+          → two ≡ sets one 0 (rtpHeader parityType (o .sequence) (o .timestamp) (o .ssrc) ++ fecHeader stream (w .l) (w .d) snbase lengths stamps)
+          → yes (parityHeaderSize + size) w two ≡ wroteParity stream w snbase o s out
+      write-done stamps lengths size one two es el ez low e1 e2 =
           let g = standing-known w s (length out) (parityHeaderSize + w .p) r e z in
+          let these : List ℕ = group w stream snbase in
           let all = whole w stream snbase (s .marks) k f y in
-          let x : List ℕ → List ℕ = λ l. xorPayloads (w .p) (map (rowAt (w .p) (s .media)) l) in
-          let head : ℕ → List ℕ = λ t. rtpHeader parityType (o .sequence) (o .timestamp) (o .ssrc) ++ fecHeader stream (w .l) (w .d) (w .p) snbase t in
-          let et : recovery ≡ xorAll (map (λ i. getD (s .timestamps) i 0) (group w stream snbase)) =
-          es ∙ xor-zero-l (xorAll (map (λ i. getD (s .timestamps) i 0) (present (s .marks) (group w stream snbase)))) ∙ ap (λ (l : List ℕ). xorAll (map (λ i. getD (s .timestamps) i 0) l)) all in
-          let ex : length (x (group w stream snbase)) ≡ w .p = length-payloads (w .p) (s .media) (group w stream snbase) ends in
-          ap (λ (t : List ℕ). yes (parityHeaderSize + w .p) w t)
+          let x : List ℕ → List ℕ = λ l. xorPayloads (w .p) (map (payloadAt w s) l) in
+          let head : (lengths stamps : ℕ) → List ℕ = λ n t. rtpHeader parityType (o .sequence) (o .timestamp) (o .ssrc) ++ fecHeader stream (w .l) (w .d) snbase n t in
+          let ex : length (x these) ≡ w .p = length-sum (w .p) (payloadAt w s) (length-own (w .p) (w .p) (s .media) (s .lengths)) these in
+          let ez′ : size ≡ longest (map (lengthAt s) these) = ez ∙ ap (λ (l : List ℕ). longest (map (lengthAt s) l)) all in
+          let is : head lengths stamps ++ take size (x these) ≡ parityOf w o stream snbase s =
+          ap (λ (n : ℕ). head lengths stamps ++ take n (x these)) ez′
+          ∙ ap₂ (λ (n t : ℕ). head n t ++ take (longest (map (lengthAt s) these)) (x these)) (el ∙ summed (s .lengths) (s .marks) these all) (es ∙ summed (s .timestamps) (s .marks) these all) in
+          ap (λ (t : List ℕ). yes (parityHeaderSize + size) w t)
           (e2
-          ∙ ap (λ (t : List ℕ). sets t 0 (head recovery)) (e1 ∙ ap (λ (l : List ℕ). paste out parityHeaderSize (zipXor (replicate (w .p) 0) (x l)) (w .p)) all)
-          ∙ laid-sum (head recovery) (x (group w stream snbase)) out parityHeaderSize (w .p) refl (g .fits) ex)
-          ∙ write-yes (head recovery ++ x (group w stream snbase)) (ap (λ (t : ℕ). head t ++ x (group w stream snbase)) et)
+          ∙ ap (λ (t : List ℕ). sets t 0 (head lengths stamps)) (e1 ∙ ap (λ (l : List ℕ). paste out parityHeaderSize (x l) size) all)
+          ∙ laid (head lengths stamps) (x these) out parityHeaderSize size refl (omega (arith, g .fits)) (omega arith))
+          ∙ write-yes size (head lengths stamps ++ take size (x these)) ez′ is
 
 -- ---- both headers, the one written behind the other
-pub headers-laid : (stream l d p snbase recovery sequence timestamp ssrc na offset size kind : ℕ) (out one two : List ℕ) → na ≡ naOf stream l d → offset ≡ offsetOf stream l → size ≡ byNa na p → kind ≡ byNa na mediaType
+pub headers-laid : (stream l d snbase size recovery sequence timestamp ssrc na offset kind : ℕ) (out one two : List ℕ) → na ≡ naOf stream l d → offset ≡ offsetOf stream l → kind ≡ byNa na mediaType
     → one ≡ sets out 0 (rtpHeader parityType sequence timestamp ssrc) → two ≡ sets one rtpHeaderSize (fecBytes snbase size kind recovery stream offset na)
-    → two ≡ sets out 0 (rtpHeader parityType sequence timestamp ssrc ++ fecHeader stream l d p snbase recovery)
-headers-laid stream l d p snbase recovery sequence timestamp ssrc na offset size kind out one two en eo es ek e1 e2 = e2 ∙ rw (e1, es, ek, eo, en)
+    → two ≡ sets out 0 (rtpHeader parityType sequence timestamp ssrc ++ fecHeader stream l d snbase size recovery)
+headers-laid stream l d snbase size recovery sequence timestamp ssrc na offset kind out one two en eo ek e1 e2 = e2 ∙ rw (e1, ek, eo, en)
 
 -- what a value leaves over a group is no more than the value
 pub byNa-le : (na v : ℕ) → byNa na v ≤ v

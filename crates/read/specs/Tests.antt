@@ -10,8 +10,8 @@ use Rattle.window.specs.declared.Window.{Window}
 use Rattle.window.specs.Group.{group, inside, isMissing}
 
 -- the sizes of a store whose table has as many records as is said
-abbrev pub sizes : (media timestamps marks parity : List ℕ) → (len : ℕ) → Sizes
-sizes media timestamps marks parity len = record { media = length media; timestamps = length timestamps; marks = length marks; parity = length parity; records = len }
+abbrev pub sizes : (media timestamps lengths marks parity : List ℕ) → (len : ℕ) → Sizes
+sizes media timestamps lengths marks parity len = record { media = length media; timestamps = length timestamps; lengths = length lengths; marks = length marks; parity = length parity; records = len }
 
 -- a row where rows are not permitted; a member lies outside; a member is missing
 abbrev pub groupTests : Window → (stream snbase : ℕ) → (marks : List ℕ) → List (ℕ × Bool)

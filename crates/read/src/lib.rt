@@ -1,6 +1,7 @@
 // Reading out: a packet that the window holds as a media datagram, and a group that it holds whole as a parity datagram.
 // The records, which only refusal 5 looks at, are the m rows of a hand; the lent table has `len` of them.
 use answer::Answer;
+use group::Laid;
 use window::Sizes;
 use window::Window;
 ghost use mathlib.Core.Path.{_≡_};
@@ -27,6 +28,7 @@ fn standing(
     headers: usize,
     media: &[u8],
     timestamps: &[u32],
+    lengths: &[u16],
     marks: &[u8],
     parity: &[u8],
     rows: &mut [u32],
@@ -34,17 +36,18 @@ fn standing(
     len: usize,
 ) -> u8
     requires { ⌜ length (hand (now rows)) ≡ m ⌝ }
-    ensures { λ r. ⌜ Stood w (sizes (now (media .entry)) (now (timestamps .entry)) (now (marks .entry)) (now (parity .entry)) len) (ltb room (headers + w .p)) (now (marks .entry)) (hand (now (rows .entry))) (hand (now (rows .exit))) r ⌝ }
+    ensures { λ r. ⌜ Stood w (sizes (now (media .entry)) (now (timestamps .entry)) (now (lengths .entry)) (now (marks .entry)) (now (parity .entry)) len) (ltb room (headers + w .p)) (now (lengths .entry)) (now (marks .entry)) (hand (now (rows .entry))) (hand (now (rows .exit))) r ⌝ }
 {
     let z = Sizes {
         media: media.len(),
         timestamps: timestamps.len(),
+        lengths: lengths.len(),
         marks: marks.len(),
         parity: parity.len(),
         records: len,
     };
     let short = order::short_output(room, headers, w.p);
-    order::standing_fault(w, z, short, marks, rows, m)
+    order::standing_fault(w, z, short, lengths, marks, rows, m)
 }
 
 // The media packet of a number, written to the front of `out`, with the window's SSRC.
@@ -53,6 +56,7 @@ pub fn read_out(
     number: u16,
     media: &[u8],
     timestamps: &[u32],
+    lengths: &[u16],
     marks: &[u8],
     parity: &[u8],
     rows: &mut [u32],
@@ -62,11 +66,23 @@ pub fn read_out(
 ) -> Answer
     requires { ⌜ length (hand (now rows)) ≡ m ⌝ }
     ensures { λ r. ⌜ ((t : List Record) → length t ≡ len → Taken t (w .k) (hand (now (rows .entry))) → record { answer = r; window = w; out = now (out .exit) }
-        ≡ readOut w number (stored (now (media .entry)) (now (timestamps .entry)) (now (marks .entry)) (now (parity .entry)) (scatter (hand (now (rows .entry))) t)) (now (out .entry))) ⌝ }
+        ≡ readOut w number (stored (now (media .entry)) (now (timestamps .entry)) (now (lengths .entry)) (now (marks .entry)) (now (parity .entry)) (scatter (hand (now (rows .entry))) t)) (now (out .entry))) ⌝ }
 {
     let room = out.len();
     let to = rtp::RTP_HEADER;
-    let fault = standing(w, room, to, media, timestamps, marks, parity, rows, m, len);
+    let fault = standing(
+        w,
+        room,
+        to,
+        media,
+        timestamps,
+        lengths,
+        marks,
+        parity,
+        rows,
+        m,
+        len,
+    );
     if fault != 0 {
         return Answer::Refused(fault);
     }
@@ -78,9 +94,10 @@ pub fn read_out(
     if marks[i] == 0 {
         return Answer::Refused(17);
     }
-    xor::copy_at(out, to, media, i * p, p);
+    let size = rtp::wide(lengths[i]);
+    xor::copy_at(out, to, media, i * p, size);
     rtp::write_rtp(out, rtp::MEDIA_TYPE, number, timestamps[i], w.ssrc);
-    Answer::Done(to + p)
+    Answer::Done(to + size, 0)
 }
 
 // The first of refusals 12, 13 and 17 that applies to the group of a stream that starts at SNBase, or 0.
@@ -100,26 +117,34 @@ fn group_fault(w: Window, stream: u8, snbase: u16, marks: &[u8]) -> u8
     0
 }
 
-// Both headers of a parity packet at the front of a buffer, by the window's profile.
+// Both headers of a parity packet at the front of a buffer, by the window's profile, with the recovery of its lengths and timestamps.
 fn write_headers(
     out: &mut [u8],
     w: Window,
     stream: u8,
     snbase: u16,
-    recovery: u32,
+    r: Laid,
     sequence: u16,
     timestamp: u32,
     ssrc: u32,
 )
     requires { ⌜ SetUp w × (stream ≤ 1) × (28 ≤ length (now out)) ⌝ }
-    ensures { λ _. ⌜ now (out .exit) ≡ sets (now (out .entry)) 0 (rtpHeader parityType sequence timestamp ssrc ++ fecHeader stream (w .l) (w .d) (w .p) snbase recovery) ⌝ }
+    ensures { λ _. ⌜ now (out .exit) ≡ sets (now (out .entry)) 0 (rtpHeader parityType sequence timestamp ssrc ++ fecHeader stream (w .l) (w .d) snbase (r .length) (r .timestamp)) ⌝ }
 {
     let na = rtp::na_of(stream, w.l, w.d);
     let offset = rtp::offset_of(stream, w.l) as u8;
-    let size = rtp::by_na(na, w.p) as u16;
     let kind = rtp::by_na(na, rtp::MEDIA_TYPE as usize) as u8;
     rtp::write_rtp(out, rtp::PARITY_TYPE, sequence, timestamp, ssrc);
-    rtp::write_fec(out, snbase, size, kind, recovery, stream, offset, na as u8);
+    rtp::write_fec(
+        out,
+        snbase,
+        r.length,
+        kind,
+        r.timestamp,
+        stream,
+        offset,
+        na as u8,
+    );
 }
 
 // The parity packet of a group that is present, written to the front of `out`, with the caller's RTP numbers.
@@ -132,6 +157,7 @@ pub fn write_parity(
     ssrc: u32,
     media: &[u8],
     timestamps: &[u32],
+    lengths: &[u16],
     marks: &[u8],
     parity: &[u8],
     rows: &mut [u32],
@@ -141,11 +167,22 @@ pub fn write_parity(
 ) -> Answer
     requires { ⌜ (stream ≤ 1) × (length (hand (now rows)) ≡ m) ⌝ }
     ensures { λ r. ⌜ ((t : List Record) → length t ≡ len → Taken t (w .k) (hand (now (rows .entry))) → record { answer = r; window = w; out = now (out .exit) }
-        ≡ wroteParity stream w snbase (record { sequence = sequence; timestamp = timestamp; ssrc = ssrc }) (stored (now (media .entry)) (now (timestamps .entry)) (now (marks .entry)) (now (parity .entry)) (scatter (hand (now (rows .entry))) t)) (now (out .entry))) ⌝ }
+        ≡ wroteParity stream w snbase (record { sequence = sequence; timestamp = timestamp; ssrc = ssrc }) (stored (now (media .entry)) (now (timestamps .entry)) (now (lengths .entry)) (now (marks .entry)) (now (parity .entry)) (scatter (hand (now (rows .entry))) t)) (now (out .entry))) ⌝ }
 {
     let room = out.len();
-    let to = rtp::PARITY_HEADERS;
-    let fault = standing(w, room, to, media, timestamps, marks, parity, rows, m, len);
+    let fault = standing(
+        w,
+        room,
+        rtp::PARITY_HEADERS,
+        media,
+        timestamps,
+        lengths,
+        marks,
+        parity,
+        rows,
+        m,
+        len,
+    );
     if fault != 0 {
         return Answer::Refused(fault);
     }
@@ -153,7 +190,18 @@ pub fn write_parity(
     if own != 0 {
         return Answer::Refused(own);
     }
-    let recovery = group::sum_up(out, to, w, stream, snbase, media, timestamps, marks);
-    write_headers(out, w, stream, snbase, recovery, sequence, timestamp, ssrc);
-    Answer::Done(to + w.p)
+    let to = rtp::PARITY_HEADERS;
+    let r = group::sum_up(
+        out,
+        to,
+        w,
+        stream,
+        snbase,
+        media,
+        timestamps,
+        lengths,
+        marks,
+    );
+    write_headers(out, w, stream, snbase, r, sequence, timestamp, ssrc);
+    Answer::Done(to + r.size, 0)
 }

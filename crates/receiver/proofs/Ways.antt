@@ -36,11 +36,11 @@ module _ (k len m : ℕ) (words : List ℕ) (fits : Bool) (would : (m ≤ mostRe
   no-room : (t : List Record) → Laid k len m words t → ⊥
   no-room t l = clash fits (would (l .few, l .room)) not-so
 
-  pub unlaid : (call : Store → Outcome) (media timestamps marks parity : List ℕ) (r : Step) → Stepped call k len m media timestamps marks parity words media timestamps marks parity words r
-  unlaid call media timestamps marks parity r = record { is = λ t l. absurd (no-room t l); still = λ t l. absurd (no-room t l); few = λ t l. absurd (no-room t l); within = λ t l. absurd (no-room t l) }
+  pub unlaid : (call : Store → Outcome) (media timestamps lengths marks parity : List ℕ) (r : Step) → Stepped call k len m media timestamps lengths marks parity words media timestamps lengths marks parity words r
+  unlaid call media timestamps lengths marks parity r = record { is = λ t l. absurd (no-room t l); still = λ t l. absurd (no-room t l); few = λ t l. absurd (no-room t l); within = λ t l. absurd (no-room t l) }
 
-  pub unread : (call : Store → List ℕ → Written) (media timestamps marks parity out : List ℕ) (r : Step) → Wrote call k len m media timestamps marks parity words out out r
-  unread call media timestamps marks parity out r = record { is = λ t l. absurd (no-room t l) }
+  pub unread : (call : Store → List ℕ → Written) (media timestamps lengths marks parity out : List ℕ) (r : Step) → Wrote call k len m media timestamps lengths marks parity words out out r
+  unread call media timestamps lengths marks parity out r = record { is = λ t l. absurd (no-room t l) }
 
 -- ---- m rows of some words were lent
 module _ (k len m : ℕ) (words : List ℕ) (room : (m + 1) * rowWords ≤ length words) where
@@ -50,15 +50,15 @@ module _ (k len m : ℕ) (words : List ℕ) (room : (m + 1) * rowWords ≤ lengt
   table-part : (t : List Record) → scatter (hand (take (m * rowWords) words)) t ≡ tableOf m words t
   table-part t = ap (λ (hs : List Row). scatter hs t) (part-is words m room)
 
-  pub read-part : (call : Store → List ℕ → Written) (media timestamps marks parity out out′ : List ℕ) (answer : Answer) (w : Window)
-      → ((t : List Record) → length t ≡ len → Taken t k (hand (take (m * rowWords) words)) → record { answer = answer; window = w; out = out′ } ≡ call (stored media timestamps marks parity (scatter (hand (take (m * rowWords) words)) t)) out)
-      → Wrote call k len m media timestamps marks parity words out out′ (stepOf answer w m false)
-  read-part call media timestamps marks parity out out′ answer w h =
-      record { is = λ t l. h t (l .sized) (taken-part t l) ∙ ap (λ (u : List Record). call (stored media timestamps marks parity u) out) (table-part t) }
+  pub read-part : (call : Store → List ℕ → Written) (media timestamps lengths marks parity out out′ : List ℕ) (answer : Answer) (w : Window)
+      → ((t : List Record) → length t ≡ len → Taken t k (hand (take (m * rowWords) words)) → record { answer = answer; window = w; out = out′ } ≡ call (stored media timestamps lengths marks parity (scatter (hand (take (m * rowWords) words)) t)) out)
+      → Wrote call k len m media timestamps lengths marks parity words out out′ (stepOf answer w m false)
+  read-part call media timestamps lengths marks parity out out′ answer w h =
+      record { is = λ t l. h t (l .sized) (taken-part t l) ∙ ap (λ (u : List Record). call (stored media timestamps lengths marks parity u) out) (table-part t) }
 
   -- ---- an offer worked on them, and they are put back
-  module _ (call : Store → Outcome) (media timestamps marks parity : List ℕ) (r : Offered) (media′ timestamps′ marks′ parity′ us : List ℕ) (lu : length us ≡ m * rowWords)
-      (o : Offer call k len (record { media = media; timestamps = timestamps; marks = marks; parity = parity; rows = hand (take (m * rowWords) words) }) r (record { media = media′; timestamps = timestamps′; marks = marks′; parity = parity′; rows = hand us })) where
+  module _ (call : Store → Outcome) (media timestamps lengths marks parity : List ℕ) (r : Offered) (media′ timestamps′ lengths′ marks′ parity′ us : List ℕ) (lu : length us ≡ m * rowWords)
+      (o : Offer call k len (record { media = media; timestamps = timestamps; lengths = lengths; marks = marks; parity = parity; rows = hand (take (m * rowWords) words) }) r (record { media = media′; timestamps = timestamps′; lengths = lengths′; marks = marks′; parity = parity′; rows = hand us })) where
     -- the words then
     abbrev back : List ℕ
     back = us ++ drop (m * rowWords) words
@@ -81,23 +81,23 @@ module _ (k len m : ℕ) (words : List ℕ) (room : (m + 1) * rowWords ≤ lengt
       table-left : (t : List Record) → tableOf n words′ t ≡ scatter (left r (hand us)) t
       table-left t = ap (λ (hs : List Row). scatter hs t) rows
 
-      pub stepped : Stepped call k len m media timestamps marks parity words media′ timestamps′ marks′ parity′ words′ (stepOf (r .answer) (r .window) n changed)
+      pub stepped : Stepped call k len m media timestamps lengths marks parity words media′ timestamps′ lengths′ marks′ parity′ words′ (stepOf (r .answer) (r .window) n changed)
       stepped = record {
         is = λ t l.
-            ap (λ (u : List Record). record { answer = r .answer; window = r .window; store = stored media′ timestamps′ marks′ parity′ u }) (table-left t)
+            ap (λ (u : List Record). record { answer = r .answer; window = r .window; store = stored media′ timestamps′ lengths′ marks′ parity′ u }) (table-left t)
             ∙ o .is t (l .sized) (taken-part t l)
-            ∙ ap (λ (u : List Record). call (stored media timestamps marks parity u)) (table-part t);
+            ∙ ap (λ (u : List Record). call (stored media timestamps lengths marks parity u)) (table-part t);
         still = λ t l c. table-left t ∙ o .still (same c) t ∙ table-part t;
         few = λ t l. few;
         within = λ t l w. subst (Within len) (sym rows) (left-within w);
       }
 
     -- nothing is held
-    pub plain-step : r .held ≡ false → Stepped call k len m media timestamps marks parity words media′ timestamps′ marks′ parity′ back (stepOf (r .answer) (r .window) m (r .changed))
+    pub plain-step : r .held ≡ false → Stepped call k len m media timestamps lengths marks parity words media′ timestamps′ lengths′ marks′ parity′ back (stepOf (r .answer) (r .window) m (r .changed))
     plain-step e = stepped m back (back-is words m room us lu ∙ ap (λ (b : Bool). cond b (holdIn 0 (r .it) (hand us)) (hand us)) (sym e)) (omega (arith, back-more words m room us lu)) (r .changed) (λ c. c)
 
     -- a record is held
     pub held-step : r .held ≡ true → (n : ℕ) (words′ : List ℕ) → take n (hand words′) ≡ holdIn 0 (r .it) (take m (hand back)) → n ≤ length (hand words′)
-        → Stepped call k len m media timestamps marks parity words media′ timestamps′ marks′ parity′ words′ (stepOf (r .answer) (r .window) n true)
+        → Stepped call k len m media timestamps lengths marks parity words media′ timestamps′ lengths′ marks′ parity′ words′ (stepOf (r .answer) (r .window) n true)
     held-step e n words′ h few =
         stepped n words′ (h ∙ ap (holdIn 0 (r .it)) (back-is words m room us lu) ∙ ap (λ (b : Bool). cond b (holdIn 0 (r .it) (hand us)) (hand us)) (sym e)) few true (λ c. absurd (let q : _≡_ {A = ℕ} 0 1 = cc in omega arith))

@@ -25,13 +25,13 @@ abbrev pub tableOf : (m : ℕ) (words : List ℕ) → List Record → List Recor
 tableOf m words t = scatter (take m (hand words)) t
 
 -- an offer: of every table what the call says, and where nothing changed, the table as it was
-pub record Stepped (call : Store → Outcome) (k len m : ℕ) (media timestamps marks parity words media′ timestamps′ marks′ parity′ words′ : List ℕ) (r : Step) : Type 0 where
+pub record Stepped (call : Store → Outcome) (k len m : ℕ) (media timestamps lengths marks parity words media′ timestamps′ lengths′ marks′ parity′ words′ : List ℕ) (r : Step) : Type 0 where
   pub is : (t : List Record) → Laid k len m words t
-      → record { answer = r .answer; window = r .receiver .window; store = stored media′ timestamps′ marks′ parity′ (tableOf (r .rows) words′ t) } ≡ call (stored media timestamps marks parity (tableOf m words t))
+      → record { answer = r .answer; window = r .receiver .window; store = stored media′ timestamps′ lengths′ marks′ parity′ (tableOf (r .rows) words′ t) } ≡ call (stored media timestamps lengths marks parity (tableOf m words t))
   pub still : (t : List Record) → Laid k len m words t → r .changed ≡ false → tableOf (r .rows) words′ t ≡ tableOf m words t
   pub few : (t : List Record) → Laid k len m words t → r .rows ≤ length (hand words′)
   pub within : (t : List Record) → Laid k len m words t → Within len (take m (hand words)) → Within len (take (r .rows) (hand words′))
 
 -- reading out or writing parity: the answer and the output, and the window value as it was
-pub record Wrote (call : Store → List ℕ → Written) (k len m : ℕ) (media timestamps marks parity words out out′ : List ℕ) (r : Step) : Type 0 where
-  pub is : (t : List Record) → Laid k len m words t → record { answer = r .answer; window = r .receiver .window; out = out′ } ≡ call (stored media timestamps marks parity (tableOf m words t)) out
+pub record Wrote (call : Store → List ℕ → Written) (k len m : ℕ) (media timestamps lengths marks parity words out out′ : List ℕ) (r : Step) : Type 0 where
+  pub is : (t : List Record) → Laid k len m words t → record { answer = r .answer; window = r .receiver .window; out = out′ } ≡ call (stored media timestamps lengths marks parity (tableOf m words t)) out

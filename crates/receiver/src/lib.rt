@@ -67,14 +67,15 @@ fn offer_parity(
     datagram: &[u8],
     media: &mut [u8],
     timestamps: &mut [u32],
+    lengths: &mut [u16],
     marks: &mut [u8],
     parity: &mut [u8],
     words: &mut [u32],
     m: usize,
     len: usize,
 ) -> Step
-    ensures { λ r. ⌜ Stepped (offeredParity stream w (now (datagram .entry))) (w .k) len m (now (media .entry)) (now (timestamps .entry)) (now (marks .entry)) (now (parity .entry)) (now (words .entry))
-        (now (media .exit)) (now (timestamps .exit)) (now (marks .exit)) (now (parity .exit)) (now (words .exit)) r ⌝ }
+    ensures { λ r. ⌜ Stepped (offeredParity stream w (now (datagram .entry))) (w .k) len m (now (media .entry)) (now (timestamps .entry)) (now (lengths .entry)) (now (marks .entry)) (now (parity .entry)) (now (words .entry))
+        (now (media .exit)) (now (timestamps .exit)) (now (lengths .exit)) (now (marks .exit)) (now (parity .exit)) (now (words .exit)) r ⌝ }
 {
     if !has_room(words.len(), m) {
         return handed(Answer::Refused(4), w, m, false);
@@ -86,6 +87,7 @@ fn offer_parity(
         datagram,
         media,
         timestamps,
+        lengths,
         marks,
         parity,
         &mut words[..e],
@@ -112,6 +114,7 @@ fn write_parity(
     ssrc: u32,
     media: &[u8],
     timestamps: &[u32],
+    lengths: &[u16],
     marks: &[u8],
     parity: &[u8],
     words: &mut [u32],
@@ -120,7 +123,7 @@ fn write_parity(
     out: &mut [u8],
 ) -> Step
     requires { ⌜ stream ≤ 1 ⌝ }
-    ensures { λ r. ⌜ Wrote (wroteParity stream w snbase (record { sequence = sequence; timestamp = timestamp; ssrc = ssrc })) (w .k) len m (now (media .entry)) (now (timestamps .entry)) (now (marks .entry)) (now (parity .entry)) (now (words .entry)) (now (out .entry)) (now (out .exit)) r ⌝ }
+    ensures { λ r. ⌜ Wrote (wroteParity stream w snbase (record { sequence = sequence; timestamp = timestamp; ssrc = ssrc })) (w .k) len m (now (media .entry)) (now (timestamps .entry)) (now (lengths .entry)) (now (marks .entry)) (now (parity .entry)) (now (words .entry)) (now (out .entry)) (now (out .exit)) r ⌝ }
 {
     if !has_room(words.len(), m) {
         return handed(Answer::Refused(4), w, m, false);
@@ -135,6 +138,7 @@ fn write_parity(
         ssrc,
         media,
         timestamps,
+        lengths,
         marks,
         parity,
         &mut words[..e],
@@ -158,13 +162,14 @@ impl Receiver {
         k: usize,
         media: &mut [u8],
         timestamps: &mut [u32],
+        lengths: &mut [u16],
         marks: &mut [u8],
         parity: &mut [u8],
         len: usize,
     ) -> Opening
         ensures { λ r. ⌜ (r .records ≤ len) × ((t : List Record) → length t ≡ len
-            → record { answer = r .answer; window = r .receiver .window; store = stored (now (media .exit)) (now (timestamps .exit)) (now (marks .exit)) (now (parity .exit)) (wiped (r .records) t) }
-            ≡ opened (asked base ssrc l d p n k) (stored (now (media .entry)) (now (timestamps .entry)) (now (marks .entry)) (now (parity .entry)) t)) ⌝ }
+            → record { answer = r .answer; window = r .receiver .window; store = stored (now (media .exit)) (now (timestamps .exit)) (now (lengths .exit)) (now (marks .exit)) (now (parity .exit)) (wiped (r .records) t) }
+            ≡ opened (asked base ssrc l d p n k) (stored (now (media .entry)) (now (timestamps .entry)) (now (lengths .entry)) (now (marks .entry)) (now (parity .entry)) t)) ⌝ }
     {
         let r = open::open(
             base,
@@ -176,6 +181,7 @@ impl Receiver {
             k,
             media,
             timestamps,
+            lengths,
             marks,
             parity,
             len,
@@ -195,14 +201,15 @@ impl Receiver {
         datagram: &[u8],
         media: &mut [u8],
         timestamps: &mut [u32],
+        lengths: &mut [u16],
         marks: &mut [u8],
         parity: &mut [u8],
         words: &mut [u32],
         m: usize,
         len: usize,
     ) -> Step
-        ensures { λ r. ⌜ Stepped (offeredMedia (self .window) (now (datagram .entry))) (self .window .k) len m (now (media .entry)) (now (timestamps .entry)) (now (marks .entry)) (now (parity .entry)) (now (words .entry))
-            (now (media .exit)) (now (timestamps .exit)) (now (marks .exit)) (now (parity .exit)) (now (words .exit)) r ⌝ }
+        ensures { λ r. ⌜ Stepped (offeredMedia (self .window) (now (datagram .entry))) (self .window .k) len m (now (media .entry)) (now (timestamps .entry)) (now (lengths .entry)) (now (marks .entry)) (now (parity .entry)) (now (words .entry))
+            (now (media .exit)) (now (timestamps .exit)) (now (lengths .exit)) (now (marks .exit)) (now (parity .exit)) (now (words .exit)) r ⌝ }
     {
         let w = self.window;
         if !has_room(words.len(), m) {
@@ -214,6 +221,7 @@ impl Receiver {
             datagram,
             media,
             timestamps,
+            lengths,
             marks,
             parity,
             &mut words[..e],
@@ -231,14 +239,15 @@ impl Receiver {
         datagram: &[u8],
         media: &mut [u8],
         timestamps: &mut [u32],
+        lengths: &mut [u16],
         marks: &mut [u8],
         parity: &mut [u8],
         words: &mut [u32],
         m: usize,
         len: usize,
     ) -> Step
-        ensures { λ r. ⌜ Stepped (offeredParity column (self .window) (now (datagram .entry))) (self .window .k) len m (now (media .entry)) (now (timestamps .entry)) (now (marks .entry)) (now (parity .entry)) (now (words .entry))
-            (now (media .exit)) (now (timestamps .exit)) (now (marks .exit)) (now (parity .exit)) (now (words .exit)) r ⌝ }
+        ensures { λ r. ⌜ Stepped (offeredParity column (self .window) (now (datagram .entry))) (self .window .k) len m (now (media .entry)) (now (timestamps .entry)) (now (lengths .entry)) (now (marks .entry)) (now (parity .entry)) (now (words .entry))
+            (now (media .exit)) (now (timestamps .exit)) (now (lengths .exit)) (now (marks .exit)) (now (parity .exit)) (now (words .exit)) r ⌝ }
     {
         let w = self.window;
         offer_parity(
@@ -247,6 +256,7 @@ impl Receiver {
             datagram,
             media,
             timestamps,
+            lengths,
             marks,
             parity,
             words,
@@ -261,14 +271,15 @@ impl Receiver {
         datagram: &[u8],
         media: &mut [u8],
         timestamps: &mut [u32],
+        lengths: &mut [u16],
         marks: &mut [u8],
         parity: &mut [u8],
         words: &mut [u32],
         m: usize,
         len: usize,
     ) -> Step
-        ensures { λ r. ⌜ Stepped (offeredParity row (self .window) (now (datagram .entry))) (self .window .k) len m (now (media .entry)) (now (timestamps .entry)) (now (marks .entry)) (now (parity .entry)) (now (words .entry))
-            (now (media .exit)) (now (timestamps .exit)) (now (marks .exit)) (now (parity .exit)) (now (words .exit)) r ⌝ }
+        ensures { λ r. ⌜ Stepped (offeredParity row (self .window) (now (datagram .entry))) (self .window .k) len m (now (media .entry)) (now (timestamps .entry)) (now (lengths .entry)) (now (marks .entry)) (now (parity .entry)) (now (words .entry))
+            (now (media .exit)) (now (timestamps .exit)) (now (lengths .exit)) (now (marks .exit)) (now (parity .exit)) (now (words .exit)) r ⌝ }
     {
         let w = self.window;
         offer_parity(
@@ -277,6 +288,7 @@ impl Receiver {
             datagram,
             media,
             timestamps,
+            lengths,
             marks,
             parity,
             words,
@@ -291,6 +303,7 @@ impl Receiver {
         number: u16,
         media: &[u8],
         timestamps: &[u32],
+        lengths: &[u16],
         marks: &[u8],
         parity: &[u8],
         words: &mut [u32],
@@ -298,7 +311,7 @@ impl Receiver {
         len: usize,
         out: &mut [u8],
     ) -> Step
-        ensures { λ r. ⌜ Wrote (readOut (self .window) number) (self .window .k) len m (now (media .entry)) (now (timestamps .entry)) (now (marks .entry)) (now (parity .entry)) (now (words .entry)) (now (out .entry)) (now (out .exit)) r ⌝ }
+        ensures { λ r. ⌜ Wrote (readOut (self .window) number) (self .window .k) len m (now (media .entry)) (now (timestamps .entry)) (now (lengths .entry)) (now (marks .entry)) (now (parity .entry)) (now (words .entry)) (now (out .entry)) (now (out .exit)) r ⌝ }
     {
         let w = self.window;
         if !has_room(words.len(), m) {
@@ -310,6 +323,7 @@ impl Receiver {
             number,
             media,
             timestamps,
+            lengths,
             marks,
             parity,
             &mut words[..e],
@@ -329,6 +343,7 @@ impl Receiver {
         ssrc: u32,
         media: &[u8],
         timestamps: &[u32],
+        lengths: &[u16],
         marks: &[u8],
         parity: &[u8],
         words: &mut [u32],
@@ -336,7 +351,7 @@ impl Receiver {
         len: usize,
         out: &mut [u8],
     ) -> Step
-        ensures { λ r. ⌜ Wrote (wroteParity column (self .window) snbase (record { sequence = sequence; timestamp = timestamp; ssrc = ssrc })) (self .window .k) len m (now (media .entry)) (now (timestamps .entry)) (now (marks .entry)) (now (parity .entry)) (now (words .entry)) (now (out .entry)) (now (out .exit)) r ⌝ }
+        ensures { λ r. ⌜ Wrote (wroteParity column (self .window) snbase (record { sequence = sequence; timestamp = timestamp; ssrc = ssrc })) (self .window .k) len m (now (media .entry)) (now (timestamps .entry)) (now (lengths .entry)) (now (marks .entry)) (now (parity .entry)) (now (words .entry)) (now (out .entry)) (now (out .exit)) r ⌝ }
     {
         let w = self.window;
         write_parity(
@@ -348,6 +363,7 @@ impl Receiver {
             ssrc,
             media,
             timestamps,
+            lengths,
             marks,
             parity,
             words,
@@ -366,6 +382,7 @@ impl Receiver {
         ssrc: u32,
         media: &[u8],
         timestamps: &[u32],
+        lengths: &[u16],
         marks: &[u8],
         parity: &[u8],
         words: &mut [u32],
@@ -373,7 +390,7 @@ impl Receiver {
         len: usize,
         out: &mut [u8],
     ) -> Step
-        ensures { λ r. ⌜ Wrote (wroteParity row (self .window) snbase (record { sequence = sequence; timestamp = timestamp; ssrc = ssrc })) (self .window .k) len m (now (media .entry)) (now (timestamps .entry)) (now (marks .entry)) (now (parity .entry)) (now (words .entry)) (now (out .entry)) (now (out .exit)) r ⌝ }
+        ensures { λ r. ⌜ Wrote (wroteParity row (self .window) snbase (record { sequence = sequence; timestamp = timestamp; ssrc = ssrc })) (self .window .k) len m (now (media .entry)) (now (timestamps .entry)) (now (lengths .entry)) (now (marks .entry)) (now (parity .entry)) (now (words .entry)) (now (out .entry)) (now (out .exit)) r ⌝ }
     {
         let w = self.window;
         write_parity(
@@ -385,6 +402,7 @@ impl Receiver {
             ssrc,
             media,
             timestamps,
+            lengths,
             marks,
             parity,
             words,

@@ -6,7 +6,8 @@ use lib.Dec.{eqb, ltb}
 use lib.ListN.{length}
 use Rattle.answer.specs.First.{first}
 use Rattle.rtp.specs.Rtp.{rtpHeaderSize, mediaType, parityType, version, padding, extension, csrcCount, marker, payloadType}
-use Rattle.rtp.specs.Fec.{parityHeaderSize, column, row, offsetOf, naOf, byNa, lengthRecovery, eBit, typeRecovery, mask, xBit, dBit, fecType, index, offset, na, snbaseExt}
+use Rattle.rtp.specs.Fec.{parityHeaderSize, column, row, offsetOf, naOf, byNa, eBit, typeRecovery, mask, xBit, dBit, fecType, index, offset, na, snbaseExt}
+use Rattle.rtp.specs.Length.{goodLength}
 
 -- 6: shorter than its headers
 abbrev pub short : (headers : ℕ) → List ℕ → Bool
@@ -20,17 +21,17 @@ badRtp g = not (eqb (version g) 2) || not (eqb (padding g) 0) || not (eqb (exten
 abbrev pub badType : (type : ℕ) → List ℕ → Bool
 badType type g = not (eqb (payloadType g) type)
 
--- 9: the payload part not exactly p bytes
+-- 9: the payload part not one or more whole units up to P
 abbrev pub badLength : (headers p : ℕ) → List ℕ → Bool
-badLength headers p g = not (eqb (length g - headers) p)
+badLength headers p g = not (goodLength p (length g - headers))
 
 -- 10: E not 1, or mask, X, type, index or SNBase ext not zero
 abbrev pub badFec : List ℕ → Bool
 badFec g = not (eqb (eBit g) 1) || not (eqb (mask g) 0) || not (eqb (xBit g) 0) || not (eqb (fecType g) 0) || not (eqb (index g) 0) || not (eqb (snbaseExt g) 0)
 
--- 11: PT or length recovery not what NA equal types and lengths give, by the profile's NA and not the packet's own
-abbrev pub badRecovery : (stream l d p : ℕ) → List ℕ → Bool
-badRecovery stream l d p g = not (eqb (typeRecovery g) (byNa (naOf stream l d) mediaType)) || not (eqb (lengthRecovery g) (byNa (naOf stream l d) p))
+-- 11: PT recovery not what NA equal types give, by the profile's NA and not the packet's own
+abbrev pub badRecovery : (stream l d : ℕ) → List ℕ → Bool
+badRecovery stream l d g = not (eqb (typeRecovery g) (byNa (naOf stream l d) mediaType))
 
 -- a row is only permitted where L is at least 4
 abbrev pub noRow : (stream l : ℕ) → Bool
@@ -57,6 +58,6 @@ parityTests stream l d p g =
     ∷ (8, badType parityType g)
     ∷ (9, badLength parityHeaderSize p g)
     ∷ (10, badFec g)
-    ∷ (11, badRecovery stream l d p g)
+    ∷ (11, badRecovery stream l d g)
     ∷ (12, badProfile stream l d g)
     ∷ []

@@ -90,7 +90,7 @@ fecBytes start length type stamps stream offset na =
     ++ bytes32 stamps
     ++ ((stream * 64) ∷ offset ∷ na ∷ 0 ∷ [])
 
--- the header of a group that starts at a number, with the exclusive-or of its timestamps: all types are 33 and all lengths P
-abbrev pub fecHeader : (stream l d p start stamps : ℕ) → List ℕ
-fecHeader stream l d p start stamps =
-    fecBytes start (byNa (naOf stream l d) p) (byNa (naOf stream l d) mediaType) stamps stream (offsetOf stream l) (naOf stream l d)
+-- the header of a group that starts at a number, with the exclusive-or of its lengths and of its timestamps: all types are 33
+abbrev pub fecHeader : (stream l d start lengths stamps : ℕ) → List ℕ
+fecHeader stream l d start lengths stamps =
+    fecBytes start lengths (byNa (naOf stream l d) mediaType) stamps stream (offsetOf stream l) (naOf stream l d)

@@ -1,4 +1,5 @@
 pub mod Bytes
 pub mod Rtp
 pub mod Fec
+pub mod Length
 pub mod Faults

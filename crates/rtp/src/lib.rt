@@ -2,13 +2,15 @@
 // Reading asks nothing of a datagram: a byte past its end reads as 0.
 ghost use mathlib.Core.Path.{_≡_};
 ghost use mathlib.Core.List.{[], _∷_};
-ghost use Prim.Native.Nat.{_+_, _/_, _%_, _≤_};
+ghost use Prim.Native.Nat.{_+_, _/_, _%_, _<_, _≤_};
+ghost use lib.Dec.{eqb};
 ghost use lib.ListN.{length};
 ghost use lib.Seq.{sets};
 ghost use Rattle.answer.specs.First.{first};
 ghost use Rattle.rtp.specs.Bytes.{byte, be16, be32, bytes32};
 ghost use Rattle.rtp.specs.Rtp as header;
 ghost use Rattle.rtp.specs.Fec as fec;
+ghost use Rattle.rtp.specs.Length.{unit, wholeUnits, goodLength};
 ghost use Rattle.rtp.specs.Faults.{badRtp, badFec, badRecovery, badProfile, noRow, mediaTests, parityTests};
 
 pub const RTP_HEADER: usize = 12;
@@ -206,6 +208,40 @@ pub fn by_na(na: usize, v: usize) -> usize
     if na % 2 == 0 { 0 } else { v }
 }
 
+// ---- lengths of payloads
+
+// A length as a size.
+pub fn wide(n: u16) -> usize
+    ensures { λ r. ⌜ (r ≡ n) × (r < 65536) ⌝ }
+{
+    n as usize
+}
+
+// Whole units, 188 or 204 as P has it; each division is by a constant.
+fn in_units(p: usize, n: usize) -> bool
+    ensures { λ r. ⌜ r ≡ eqb (n % unit p) 0 ⌝ }
+{
+    if p % 188 == 0 {
+        n % 188 == 0
+    } else {
+        n % 204 == 0
+    }
+}
+
+// One or more whole units up to a number of bytes.
+pub fn whole_units(p: usize, most: usize, n: usize) -> bool
+    ensures { λ r. ⌜ r ≡ wholeUnits p most n ⌝ }
+{
+    (1 <= n) & (n <= most) & in_units(p, n)
+}
+
+// A length that a payload may have.
+pub fn good_length(p: usize, n: usize) -> bool
+    ensures { λ r. ⌜ r ≡ goodLength p n ⌝ }
+{
+    whole_units(p, p, n)
+}
+
 // ---- refusals 6 to 12
 
 // 7: version not 2, or P, X, CC or M not zero.
@@ -231,13 +267,12 @@ pub fn bad_fec(g: &[u8]) -> bool
         | (snbase_ext(g) != 0)
 }
 
-// 11: PT or length recovery not the only value it can have, by the profile's NA.
-pub fn bad_recovery(g: &[u8], stream: u8, l: usize, d: usize, p: usize) -> bool
-    ensures { λ r. ⌜ r ≡ badRecovery stream l d p (now (g .entry)) ⌝ }
+// 11: PT recovery not the only value it can have, by the profile's NA.
+pub fn bad_recovery(g: &[u8], stream: u8, l: usize, d: usize) -> bool
+    ensures { λ r. ⌜ r ≡ badRecovery stream l d (now (g .entry)) ⌝ }
 {
     let na = na_of(stream, l, d);
-    (type_recovery(g) as usize != by_na(na, MEDIA_TYPE as usize))
-        | (length_recovery(g) as usize != by_na(na, p))
+    type_recovery(g) as usize != by_na(na, MEDIA_TYPE as usize)
 }
 
 // A row where L is below 4.
@@ -270,7 +305,7 @@ pub fn media_fault(g: &[u8], p: usize) -> u8
     if payload_type(g) != MEDIA_TYPE {
         return 8;
     }
-    if g.len() - RTP_HEADER != p {
+    if !good_length(p, g.len() - RTP_HEADER) {
         return 9;
     }
     0
@@ -289,13 +324,13 @@ pub fn parity_fault(g: &[u8], stream: u8, l: usize, d: usize, p: usize) -> u8
     if payload_type(g) != PARITY_TYPE {
         return 8;
     }
-    if g.len() - PARITY_HEADERS != p {
+    if !good_length(p, g.len() - PARITY_HEADERS) {
         return 9;
     }
     if bad_fec(g) {
         return 10;
     }
-    if bad_recovery(g, stream, l, d, p) {
+    if bad_recovery(g, stream, l, d) {
         return 11;
     }
     if bad_profile(g, stream, l, d) {

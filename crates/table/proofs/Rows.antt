@@ -1,11 +1,12 @@
 -- A row is written, and one record more is gathered. Assumes nothing.
-use mathlib.Core.Path.{_≡_, refl, sym, ap, _∙_}
-use mathlib.Core.Bool.{Bool, true, false, cond, not, true≢false, _||_}
+use mathlib.Core.Path.{_≡_, refl, sym, ap, subst, _∙_}
+use mathlib.Core.Bool.{Bool, true, false, cond, not}
 use mathlib.Core.List.{List, [], _∷_, _++_}
 use Prim.Native.Nat.{ℕ, zero, _+_, _-_, _*_, _<_, _≤_, suc}
 use native.Mathlib.Omega.{arith}
 use native.Mathlib.Numerals.{add-one}
 use lib.Dec.{eqb, ltb}
+use lib.Bits.{bitOr, or-add-and, and-le-l, and-le-r}
 use lib.ListN.{length, getD, set, take, drop, length-append, length-set, length-drop, replicate, length-replicate, replicate-append-replicate}
 use lib.Seq.{set-at, append-snoc, take-suc-set, length-take-le, drop-length, drop-cons, getD-take}
 use borrow.Author.Tests.{not-false, eq-eqb, eqb-true, ne-eqb, lt-ltb, le-ltb, ltb-true, ltb-false}
@@ -84,19 +85,29 @@ pub one-more : (r : ℕ) (t : List Record) → more (gathered r t) r (getD t r b
 unfolding gathered
 one-more r t = rw (add-one r)
 
--- neither was one found, nor is this one
-pub neither : (found : Bool) (n : ℕ) → (found || not (eqb n 0)) ≡ false → (found ≡ false) × (n ≡ 0)
-neither true n e = absurd (true≢false e)
-neither false n e = (refl, eqb-true n 0 (not-false (eqb n 0) e))
+-- an or that is 0 is one of zeros
+no-bit : (a b : ℕ) → bitOr a b ≡ 0 → (a ≡ 0) × (b ≡ 0)
+no-bit a b e = (omega (arith, or-add-and a b, and-le-l a b, and-le-r a b), omega (arith, or-add-and a b, and-le-l a b, and-le-r a b))
+
+-- where the or of four numbers is 0 each is 0
+pub no-bits : (a b c d : ℕ) → not (eqb (bitOr (bitOr (bitOr a b) c) d) 0) ≡ false → (a ≡ 0) × (b ≡ 0) × (c ≡ 0) × (d ≡ 0)
+no-bits a b c d e =
+    let x = no-bit (bitOr (bitOr a b) c) d (eqb-true _ 0 (not-false _ e)) in
+    let y = no-bit (bitOr a b) c (x .0) in
+    let z = no-bit a b (y .0) in
+    (z .0, z .1, y .1, x .1)
 
 -- a free record more, and still none is gathered
-pub none-more : (t : List Record) (r : ℕ) → gathered r t ≡ [] → getD t r blank .«in_use» ≡ 0 → gathered (r + 1) t ≡ []
+none-more : (t : List Record) (r : ℕ) → gathered r t ≡ [] → getD t r blank .«in_use» ≡ 0 → gathered (r + 1) t ≡ []
 none-more t r e z = sym (one-more r t) ∙ rw (eq-eqb (getD t r blank .«in_use») 0 z) e
 
--- all k, or none
-pub all-or-none : (t : List Record) (k : ℕ) (found : Bool) (r : ℕ) → (found ≡ false → gathered k t ≡ []) → r ≡ cond found 0 k → (r ≤ k) × (gathered r t ≡ [])
-all-or-none t k true r f e = rw e (omega arith, none-gathered t)
-all-or-none t k false r f e = rw e (omega arith, f refl)
+-- four free records more, and still none is gathered
+pub four-more : (t : List Record) (r : ℕ) → gathered r t ≡ [] → getD t r blank .«in_use» ≡ 0 → getD t (r + 1) blank .«in_use» ≡ 0 → getD t (r + 2) blank .«in_use» ≡ 0 → getD t (r + 3) blank .«in_use» ≡ 0 → gathered (r + 4) t ≡ []
+four-more t r e a b c d =
+    let e₁ : gathered (r + 1) t ≡ [] = none-more t r e a in
+    let e₂ : gathered (r + 2) t ≡ [] = subst (λ (j : ℕ). gathered j t ≡ []) (omega arith) (none-more t (r + 1) e₁ b) in
+    let e₃ : gathered (r + 3) t ≡ [] = subst (λ (j : ℕ). gathered j t ≡ []) (omega arith) (none-more t (r + 2) e₂ c) in
+    subst (λ (j : ℕ). gathered j t ≡ []) (omega arith) (none-more t (r + 3) e₃ d)
 
 -- rows i and on are back in the table
 abbrev pub back : List Row → ℕ → List Record → List Record

@@ -2,7 +2,7 @@
 use mathlib.Core.Path.{_≡_, sym, ap, _∙_}
 use mathlib.Core.Bool.{Bool, true}
 use mathlib.Core.List.{List}
-use Prim.Native.Nat.{ℕ, _<_}
+use Prim.Native.Nat.{ℕ, _<_, _≤_}
 use native.Mathlib.Omega.{arith}
 use lib.ListN.{length, getD}
 use Rattle.window.specs.declared.Record.{Record}
@@ -12,10 +12,11 @@ use Rattle.window.specs.Order.{used}
 use Rattle.window.specs.Plain.{Inside}
 use Rattle.table.specs.View.{Row, nobody, itAt}
 
--- the slot of a row is one of the window's records, its group lies in the window, and its missing count is right
+-- the slot of a row is one of the window's records, its group lies in the window, its payload is no longer than P, and its missing count is right
 pub record SoundRow (w : Window) (marks : List ℕ) (h : Row) : Type 0 where
   pub slot-low : h .slot < w .k
   pub inside : Inside w (h .it .stream) (h .it .snbase)
+  pub size-low : h .it .«payload_length» ≤ w .p
   pub counted : h .missing ≡ length (missing marks (group w (h .it .stream) (h .it .snbase)))
 
 -- this is so of each row in use

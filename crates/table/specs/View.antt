@@ -17,7 +17,7 @@ nobody = record { slot = 0; missing = 0; it = blank }
 
 -- how many words a row has
 abbrev pub rowWords : ℕ
-rowWords = 3
+rowWords = 4
 
 -- the first word of a row: its slot, and its missing count in the lower 16 bits
 abbrev pub headOf : (slot missing : ℕ) → ℕ
@@ -27,28 +27,41 @@ headOf slot missing = slot * 65536 + missing
 abbrev pub groupOf : Record → ℕ
 groupOf v = v .stream + v .«in_use» * 256 + v .snbase * 65536
 
--- the record of two words, each field modulo its width
-abbrev pub recordOf : (a d : ℕ) → Record
-recordOf a d = record { stream = a % 256; «in_use» = a / 256 % 256; snbase = a / 65536 % 65536; «timestamp_recovery» = d }
+-- the last word of a row: the length recovery, and the payload's length in the upper 16 bits
+abbrev pub lengthsOf : Record → ℕ
+lengthsOf v = v .«length_recovery» + v .«payload_length» * 65536
 
--- the hand of some words, three to a row: the slot and the missing count, the stream, the mark and SNBase, and the timestamp recovery
+-- the record of three words, each field modulo its width
+abbrev pub recordOf : (a d e : ℕ) → Record
+recordOf a d e =
+    record {
+      stream = a % 256;
+      «in_use» = a / 256 % 256;
+      snbase = a / 65536 % 65536;
+      «timestamp_recovery» = d;
+      «length_recovery» = e % 65536;
+      «payload_length» = e / 65536 % 65536;
+    }
+
+-- the hand of some words, four to a row: the slot and the missing count; the stream, the mark and SNBase; the timestamp recovery; the lengths
 unfoldable pub hand : List ℕ → List Row
 hand [] = []
 hand (h ∷ []) = []
 hand (h ∷ a ∷ []) = []
-hand (h ∷ a ∷ d ∷ ws) = record { slot = h / 65536; missing = h % 65536; it = recordOf a d } ∷ hand ws
+hand (h ∷ a ∷ d ∷ []) = []
+hand (h ∷ a ∷ d ∷ e ∷ ws) = record { slot = h / 65536; missing = h % 65536; it = recordOf a d e } ∷ hand ws
 
--- the record of the two words from i on
+-- the record of the three words from i on
 abbrev pub wordsAt : List ℕ → ℕ → Record
-wordsAt ws i = recordOf (getD ws i 0) (getD ws (i + 1) 0)
+wordsAt ws i = recordOf (getD ws i 0) (getD ws (i + 1) 0) (getD ws (i + 2) 0)
 
--- some words with the two from i on set to those of a record
+-- some words with the three from i on set to those of a record
 abbrev pub putWords : List ℕ → ℕ → Record → List ℕ
-putWords ws i v = set (set ws i (groupOf v)) (i + 1) (v .«timestamp_recovery»)
+putWords ws i v = set (set (set ws i (groupOf v)) (i + 1) (v .«timestamp_recovery»)) (i + 2) (lengthsOf v)
 
 -- a record as its words give it back: itself, where each field has its width
 abbrev pub fit : Record → Record
-fit v = recordOf (groupOf v) (v .«timestamp_recovery»)
+fit v = recordOf (groupOf v) (v .«timestamp_recovery») (lengthsOf v)
 
 -- the slot of row i
 abbrev pub slotAt : List Row → ℕ → ℕ

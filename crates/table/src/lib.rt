@@ -1,7 +1,7 @@
-// The records in use, each with its slot and how many of its group are missing: one slice of words, three to a row, seen through one view, `hand`.
+// The records in use, each with its slot and how many of its group are missing: one slice of words, four to a row, seen through one view, `hand`.
 use window::Record;
 ghost use mathlib.Core.Path.{_≡_};
-ghost use mathlib.Core.Bool.{true, false, cond};
+ghost use mathlib.Core.Bool.{true, false};
 ghost use mathlib.Core.List.{List, []};
 ghost use Prim.Native.Nat.{_+_, _-_, _/_, _%_, _<_, _≤_};
 ghost use lib.ListN.{length, set, take};
@@ -11,8 +11,8 @@ ghost use Rattle.table.specs.Apart.{Within};
 ghost use Rattle.table.specs.Hold.{FirstFree, Shifted, holdIn};
 ghost use Rattle.table.specs.Gather.{more, gathered, Gathered, wiped};
 
-// How many words a row has: one for its slot and its missing count, two for its record.
-pub const ROW: usize = 3;
+// How many words a row has: one for its slot and its missing count, three for its record.
+pub const ROW: usize = 4;
 
 // A word as a size.
 fn wide32(x: u32) -> usize
@@ -57,30 +57,36 @@ fn lower(x: u32) -> u32
     x % 65536
 }
 
-// The record of the two words from i on, each field modulo its width.
+// The record of the three words from i on, each field modulo its width.
 fn words_at(rows: &[u32], i: usize) -> Record
-    requires { ⌜ i + 2 ≤ length (now rows) ⌝ }
+    requires { ⌜ i + 3 ≤ length (now rows) ⌝ }
     ensures { λ v. ⌜ v ≡ wordsAt (now (rows .entry)) i ⌝ }
 {
     let group = rows[i];
+    let lengths = rows[i + 2];
     Record {
         stream: (group % 256) as u8,
         in_use: (group / 256 % 256) as u8,
         snbase: (group / 65536 % 65536) as u16,
         timestamp_recovery: rows[i + 1],
+        length_recovery: (lengths % 65536) as u16,
+        payload_length: (lengths / 65536 % 65536) as u16,
     }
 }
 
-// The two words from i on are set to those of a record.
+// The three words from i on are set to those of a record.
 fn put_words(rows: &mut [u32], i: usize, v: Record)
-    requires { ⌜ i + 2 ≤ length (now rows) ⌝ }
+    requires { ⌜ i + 3 ≤ length (now rows) ⌝ }
     ensures { λ _. ⌜ (now (rows .exit) ≡ putWords (now (rows .entry)) i v) × (fit v ≡ v) ⌝ }
 {
     let stream = wide8(v.stream);
     let in_use = wide8(v.in_use);
     let snbase = wide16(v.snbase);
+    let recovery = wide16(v.length_recovery);
+    let size = wide16(v.payload_length);
     rows[i] = stream + in_use * 256 + snbase * 65536;
     rows[i + 1] = v.timestamp_recovery;
+    rows[i + 2] = recovery + size * 65536;
 }
 
 // The first word of row i.
@@ -262,32 +268,34 @@ fn take_in(rows: &mut [u32], n: usize, most: usize, r: usize, v: Record) -> usiz
     n + 1
 }
 
-// A record that is not free was found before, or this is one.
-fn or_taken(found: bool, v: Record) -> bool
-    ensures { λ r. ⌜ (r ≡ false → (found ≡ false) × (v .in_use ≡ 0)) ⌝ }
+// One of four records is not free.
+fn any_taken(a: Record, b: Record, c: Record, d: Record) -> bool
+    ensures { λ r. ⌜ (r ≡ false → (a .in_use ≡ 0) × (b .in_use ≡ 0) × (c .in_use ≡ 0) × (d .in_use ≡ 0)) ⌝ }
 {
-    found | (v.in_use != 0)
+    (a.in_use | b.in_use | c.in_use | d.in_use) != 0
 }
 
-// All k, or none where a record that is not free was found.
-fn all_or_none(found: bool, k: usize) -> usize
-    ensures { λ r. ⌜ r ≡ cond found 0 k ⌝ }
+// As much of k as is whole fours.
+fn fours(k: usize) -> usize
+    ensures { λ r. ⌜ (r ≤ k) × (r % 4 ≡ 0) ⌝ }
 {
-    if found { 0 } else { k }
+    k - k % 4
 }
 
-// How many records at the front of the table need no second look: the first k where all are free, or none. There is no branch in the loop, so that several records are looked at at once.
+// How many records at the front of the table need no second look: the fours of free records that it begins with.
 fn free_front(table: &[Record], k: usize) -> usize
     requires { ⌜ k ≤ length (now table) ⌝ }
     ensures { λ r. ⌜ (r ≤ k) × (gathered r (now (table .entry)) ≡ []) ⌝ }
 {
-    let mut found = false;
+    let to = fours(k);
     let mut i = 0;
-    while i < k {
-        found = or_taken(found, table[i]);
-        i += 1;
+    while i < to {
+        if any_taken(table[i], table[i + 1], table[i + 2], table[i + 3]) {
+            return i;
+        }
+        i += 4;
     }
-    all_or_none(found, k)
+    to
 }
 
 // The records in use among the first k of the table become the first rows. The answer is how many they are, or most + 1 where they are more than most.
@@ -329,6 +337,8 @@ pub fn wipe(table: &mut [Record], k: usize)
             in_use: 0,
             snbase: 0,
             timestamp_recovery: 0,
+            length_recovery: 0,
+            payload_length: 0,
         };
         i += 1;
     }

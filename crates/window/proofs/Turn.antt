@@ -3,8 +3,17 @@ use mathlib.Core.Path.{_≡_, refl, sym, ap, _∙_}
 use mathlib.Core.Bool.{Bool, true, false, cond, _&&_, _||_}
 use Prim.Native.Nat.{ℕ, _+_, _≤_}
 use native.Mathlib.Omega.{arith}
+use mathlib.Core.List.{List}
+use lib.Bits.{bitAnd, bitOr, or-lt, or-add-and, and-le-l, and-le-r}
+use lib.ListN.{getD}
+use borrow.Author.Tests.{leb-true, leb-false, le-leb, lt-leb}
 use mir.Val.{boolByte}
 use Rattle.sequence.specs.Lists.{upTo, all, any, count, all-more, any-more, count-more, count-le, length-upTo}
+use Rattle.window.specs.Order.{isMark}
+
+-- the mark of a position is 0 or 1
+abbrev pub goodMark : (marks : List ℕ) → ℕ → Bool
+goodMark marks i = isMark (getD marks i 0)
 
 -- a flag as a number
 pub flag-le : (t : Bool) → boolByte t ≤ 1
@@ -28,3 +37,19 @@ module _ (test : ℕ → Bool) (i : ℕ) where
 -- no more are counted than there are
 pub few : (test : ℕ → Bool) (n : ℕ) → count test (upTo n) ≤ n
 few test n = omega (arith, count-le test (upTo n), length-upTo n)
+
+-- joined bit by bit, two numbers come to 0 or 1 where each is
+pub join-mark : (a m : ℕ) → isMark (bitOr a m) ≡ (isMark a && isMark m)
+join-mark a m = go (isMark a) (isMark m) refl refl
+  where
+    sum : bitOr a m + bitAnd a m ≡ a + m
+    sum = or-add-and a m
+
+    go : (s t : Bool) → isMark a ≡ s → isMark m ≡ t → isMark (bitOr a m) ≡ (s && t)
+    go true true p q =
+        let l = leb-true a 1 p in
+        let k = leb-true m 1 q in
+        let h = or-lt 1 a m (omega arith) (omega arith) in
+        le-leb (bitOr a m) 1 (omega arith)
+    go true false p q = let h = leb-false m 1 q in lt-leb (bitOr a m) 1 (omega (arith, sum, and-le-l a m))
+    go false t p q = let h = leb-false a 1 p in lt-leb (bitOr a m) 1 (omega (arith, sum, and-le-r a m))

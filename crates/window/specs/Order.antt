@@ -6,6 +6,7 @@ use lib.Dec.{eqb, leb}
 use lib.ListN.{length, getD}
 use Rattle.sequence.specs.Lists.{upTo, all, any, count}
 use Rattle.rtp.specs.Faults.{noRow}
+use Rattle.rtp.specs.Length.{goodLength}
 use Rattle.window.specs.declared.Record.{Record}
 use Rattle.window.specs.declared.Window.{Window}
 use Rattle.window.specs.Limits.{leastMissing, rows, useMark}
@@ -56,13 +57,19 @@ isFirst w s r = not (any (λ q. inUse w s q && sameGroup (recordAt s q) (recordA
 abbrev pub waiting : Window → Store → ℕ → Bool
 waiting w s r = leb leastMissing (length (missingAt w s r))
 
--- a record is free, or it is of good shape, the first of its group, and waits
+-- a record is free, or it is of good shape, with a payload of good length, the first of its group, and waits
 abbrev pub recordGood : Window → Store → ℕ → Bool
-recordGood w s r = not (inUse w s r) || (shapeGood w (recordAt s r .stream) (recordAt s r .snbase) && isFirst w s r && waiting w s r)
+recordGood w s r =
+    not (inUse w s r)
+    || (shapeGood w (recordAt s r .stream) (recordAt s r .snbase) && goodLength (w .p) (recordAt s r .«payload_length») && isFirst w s r && waiting w s r)
 
 -- every present mark is 0 or 1
 abbrev pub marksGood : Window → (marks : List ℕ) → Bool
 marksGood w marks = all (λ i. isMark (getD marks i 0)) (upTo (w .n))
+
+-- the length kept at every present position is good
+abbrev pub lengthsGood : Window → (lengths marks : List ℕ) → Bool
+lengthsGood w lengths marks = all (λ i. not (isPresent marks i) || goodLength (w .p) (getD lengths i 0)) (upTo (w .n))
 
 -- every in-use mark is 0 or 1, and every record is good
 abbrev pub recordsGood : Window → Store → Bool
@@ -74,4 +81,4 @@ countsGood w s = eqb (w .present) (count (isPresent (s .marks)) (upTo (w .n))) &
 
 -- 5: the store is not in order
 unfoldable pub disorder : Window → Store → Bool
-disorder w s = not (marksGood w (s .marks) && recordsGood w s && countsGood w s)
+disorder w s = not (marksGood w (s .marks) && lengthsGood w (s .lengths) (s .marks) && recordsGood w s && countsGood w s)

@@ -4,23 +4,26 @@ use mathlib.Core.List.{List}
 use Prim.Native.Nat.{ℕ, _*_}
 use lib.Dec.{ltb}
 use lib.ListN.{length, getD, take, drop}
+use Rattle.xor.specs.Xor.{padded}
 use Rattle.window.specs.declared.Record.{Record}
 use Rattle.window.specs.declared.Sizes.{Sizes}
 use Rattle.window.specs.declared.Window.{Window}
 use Rattle.window.specs.Record.{blank}
 use Rattle.window.specs.Limits.{rows}
 
--- the lent store: for each position a payload, a timestamp and a present mark; for each record a payload; and the table of records
+-- the lent store: for each position a payload, a timestamp, a length and a present mark; for each record a payload; and the table of records
 pub record Store : Type 0 where
   pub media : List ℕ
   pub timestamps : List ℕ
+  pub lengths : List ℕ
   pub marks : List ℕ
   pub parity : List ℕ
   pub records : List Record
 
--- a store of its five parts
-abbrev pub stored : (media timestamps marks parity : List ℕ) → List Record → Store
-stored media timestamps marks parity records = record { media = media; timestamps = timestamps; marks = marks; parity = parity; records = records }
+-- a store of its six parts
+abbrev pub stored : (media timestamps lengths marks parity : List ℕ) → List Record → Store
+stored media timestamps lengths marks parity records =
+    record { media = media; timestamps = timestamps; lengths = lengths; marks = marks; parity = parity; records = records }
 
 -- how many elements each part has
 abbrev pub sizesOf : Store → Sizes
@@ -28,6 +31,7 @@ sizesOf s =
     record {
       media = length (s .media);
       timestamps = length (s .timestamps);
+      lengths = length (s .lengths);
       marks = length (s .marks);
       parity = length (s .parity);
       records = length (s .records);
@@ -38,6 +42,7 @@ abbrev pub shortSizes : Window → Sizes → Bool
 shortSizes w z =
     ltb (z .media) (w .n * w .p)
     || ltb (z .timestamps) (w .n)
+    || ltb (z .lengths) (w .n)
     || ltb (z .marks) (w .n)
     || ltb (z .parity) (rows w * w .p)
     || ltb (z .records) (rows w)
@@ -46,17 +51,21 @@ shortSizes w z =
 abbrev pub shortStore : Window → Store → Bool
 shortStore w s = shortSizes w (sizesOf s)
 
--- the p bytes at an index of a part that holds payloads
-abbrev pub payloadIn : (p : ℕ) → List ℕ → ℕ → List ℕ
-payloadIn p part i = take p (drop (i * p) part)
-
--- the payload kept at a position
-abbrev pub payloadAt : Window → Store → ℕ → List ℕ
-payloadAt w s i = payloadIn (w .p) (s .media) i
+-- the payload of n bytes at an index of a part that has p bytes for each, with zeros up to p: what else stands there counts as zero
+abbrev pub payloadIn : (p : ℕ) → List ℕ → (n i : ℕ) → List ℕ
+payloadIn p part n i = padded p (take n (drop (i * p) part))
 
 -- the timestamp kept at a position
 abbrev pub timestampAt : Store → ℕ → ℕ
 timestampAt s i = getD (s .timestamps) i 0
+
+-- the length kept at a position
+abbrev pub lengthAt : Store → ℕ → ℕ
+lengthAt s i = getD (s .lengths) i 0
+
+-- the payload kept at a position
+abbrev pub payloadAt : Window → Store → ℕ → List ℕ
+payloadAt w s i = payloadIn (w .p) (s .media) (lengthAt s i) i
 
 -- record r of the table
 abbrev pub recordAt : Store → ℕ → Record
@@ -64,4 +73,4 @@ recordAt s r = getD (s .records) r blank
 
 -- the payload of a record
 abbrev pub parityAt : Window → Store → ℕ → List ℕ
-parityAt w s r = payloadIn (w .p) (s .parity) r
+parityAt w s r = payloadIn (w .p) (s .parity) (recordAt s r .«payload_length») r

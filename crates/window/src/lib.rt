@@ -1,17 +1,17 @@
 // The window value: its set-up numbers, its limits, what the lent store needs, and whether that store is in order.
 ghost use mathlib.Core.Path.{_≡_};
-ghost use mathlib.Core.Bool.{not, _||_};
+ghost use mathlib.Core.Bool.{true, cond, not, _&&_, _||_};
 ghost use Prim.Native.Nat.{_+_, _*_, _<_, _≤_};
-ghost use lib.Dec.{ltb};
-ghost use lib.ListN.{length};
+ghost use lib.Dec.{eqb, ltb};
+ghost use lib.ListN.{length, getD};
 ghost use Rattle.answer.specs.First.{first};
-ghost use Rattle.sequence.specs.Lists.{upTo, count};
+ghost use Rattle.sequence.specs.Lists.{upTo, all, count};
 ghost use Rattle.window.specs.Limits.{mostSide, mostMatrix, mostPositions, mostRecords, oneToSeven, setUpTests};
 ghost use Rattle.window.specs.Record.{blank};
 ghost use Rattle.window.specs.Store.{shortSizes};
 ghost use Rattle.window.specs.Bounds.{SetUp};
 ghost use Rattle.window.specs.Group.{inside};
-ghost use Rattle.window.specs.Order.{isPresent, marksGood, shapeGood};
+ghost use Rattle.window.specs.Order.{isMark, isPresent, marksGood, lengthsGood, shapeGood};
 
 // Most columns, and most rows, of a parity matrix.
 pub const MOST_SIDE: usize = 20;
@@ -37,7 +37,7 @@ pub struct Window {
     // columns and rows of the parity matrix
     pub l: usize,
     pub d: usize,
-    // bytes of a payload
+    // most bytes of a payload
     pub p: usize,
     // positions
     pub n: usize,
@@ -52,19 +52,22 @@ pub struct Window {
 pub struct Sizes {
     pub media: usize,
     pub timestamps: usize,
+    pub lengths: usize,
     pub marks: usize,
     pub parity: usize,
     pub records: usize,
 }
 
-// A parity packet in hand: its stream (0 a column, 1 a row), in-use mark, SNBase and timestamp recovery, in eight bytes with
-// no gap. Its payload stands at the same index of the parity bytes.
+// A parity packet in hand: its stream (0 a column, 1 a row), in-use mark, SNBase, timestamp and length recovery and the length
+// of its own payload, in twelve bytes with no gap. Its payload stands at the same index of the parity bytes.
 #[repr(C)]
 pub struct Record {
     pub stream: u8,
     pub in_use: u8,
     pub snbase: u16,
     pub timestamp_recovery: u32,
+    pub length_recovery: u16,
+    pub payload_length: u16,
 }
 
 // A free record.
@@ -76,6 +79,8 @@ pub fn free_record() -> Record
         in_use: 0,
         snbase: 0,
         timestamp_recovery: 0,
+        length_recovery: 0,
+        payload_length: 0,
     }
 }
 
@@ -138,13 +143,14 @@ impl Window {
     {
         (z.media < self.n * self.p)
             | (z.timestamps < self.n)
+            | (z.lengths < self.n)
             | (z.marks < self.n)
             | (z.parity < self.k * self.p)
             | (z.records < self.k)
     }
 }
 
-// ---- refusal 5: the marks, and the shape of a record
+// ---- refusal 5: the marks, the lengths, and the shape of a record
 
 // Where a block of marks ends that starts at a position below n.
 fn block_end(at: usize, n: usize) -> usize
@@ -157,50 +163,107 @@ fn block_end(at: usize, n: usize) -> usize
     at + 128
 }
 
-// How many marks of a block are 1: a sum in 8 bits, so that it is made of sixteen marks at once.
-fn ones_between(marks: &[u8], from: usize, to: usize) -> u8
+// Of a block of marks: how many are 1, and all of them joined bit by bit, which is 0 or 1 where each mark is.
+pub struct Ones {
+    pub ones: u8,
+    pub all: u8,
+}
+
+// The marks of a block, looked at once: in 8 bits, so that sixteen marks are taken at once.
+fn ones_between(marks: &[u8], from: usize, to: usize) -> Ones
     requires { ⌜ (from ≤ to) × (to ≤ length (now marks)) × (to ≤ from + 128) ⌝ }
-    ensures { λ r. ⌜ count (isPresent (now (marks .entry))) (upTo from) + r ≡ count (isPresent (now (marks .entry))) (upTo to) ⌝ }
+    ensures { λ r. ⌜ (count (isPresent (now (marks .entry))) (upTo from) + r .ones ≡ count (isPresent (now (marks .entry))) (upTo to))
+        × ((all (λ i. isMark (getD (now (marks .entry)) i 0)) (upTo from) && isMark (r .all)) ≡ all (λ i. isMark (getD (now (marks .entry)) i 0)) (upTo to)) ⌝ }
 {
     let mut ones: u8 = 0;
+    let mut all: u8 = 0;
     let mut i = from;
     while i < to {
-        ones += (marks[i] == 1) as u8;
+        let mark = marks[i];
+        ones += (mark == 1) as u8;
+        all = all | mark;
         i += 1;
     }
-    ones
+    Ones { ones, all }
+}
+
+// Of a window's marks: how many are 1, and whether each is 0 or 1.
+pub struct Counted {
+    pub ones: usize,
+    pub good: bool,
 }
 
 impl Window {
-    // Every present mark is 0 or 1.
-    pub fn marks_good(self, marks: &[u8]) -> bool
+    // How many positions are present, and whether every present mark is 0 or 1, block by block.
+    pub fn count_present(self, marks: &[u8]) -> Counted
         requires { ⌜ self .n ≤ length (now marks) ⌝ }
-        ensures { λ r. ⌜ r ≡ marksGood self (now (marks .entry)) ⌝ }
+        ensures { λ r. ⌜ (r .ones ≡ count (isPresent (now (marks .entry))) (upTo (self .n))) × (r .good ≡ marksGood self (now (marks .entry))) ⌝ }
     {
         let n = self.n;
+        let mut ones = 0;
+        let mut good = true;
+        let mut at = 0;
+        while at < n {
+            let to = block_end(at, n);
+            let r = ones_between(marks, at, to);
+            ones += r.ones as usize;
+            good = good & (r.all <= 1);
+            at = to;
+        }
+        Counted { ones, good }
+    }
+}
+
+// What a position's length is most often: p where it is present, or 0.
+fn wanted(mark: u8, p: u16) -> u16
+    ensures { λ r. ⌜ r ≡ cond (eqb mark 1) p 0 ⌝ }
+{
+    if mark == 1 { p } else { 0 }
+}
+
+impl Window {
+    // Where every present position has P bytes and every other has none, as most senders have it: there is no division and no
+    // branch in the loop, so that several are looked at at once.
+    fn all_full(self, lengths: &[u16], marks: &[u8]) -> bool
+        requires { ⌜ SetUp self × (self .n ≤ length (now lengths)) × (self .n ≤ length (now marks)) ⌝ }
+        ensures { λ r. ⌜ (r ≡ true → lengthsGood self (now (lengths .entry)) (now (marks .entry)) ≡ true) ⌝ }
+    {
+        let n = self.n;
+        let p = self.p as u16;
+        let mut full = true;
+        let mut i = 0;
+        while i < n {
+            full = full & (lengths[i] == wanted(marks[i], p));
+            i += 1;
+        }
+        full
+    }
+
+    // The length of every present position is good.
+    fn each_good(self, lengths: &[u16], marks: &[u8]) -> bool
+        requires { ⌜ (self .n ≤ length (now lengths)) × (self .n ≤ length (now marks)) ⌝ }
+        ensures { λ r. ⌜ r ≡ lengthsGood self (now (lengths .entry)) (now (marks .entry)) ⌝ }
+    {
+        let n = self.n;
+        let p = self.p;
         let mut good = true;
         let mut i = 0;
         while i < n {
-            good = good & (marks[i] <= 1);
+            good = good & ((marks[i] != 1) | rtp::good_length(p, rtp::wide(lengths[i])));
             i += 1;
         }
         good
     }
 
-    // How many positions are present, block by block.
-    pub fn count_present(self, marks: &[u8]) -> usize
-        requires { ⌜ self .n ≤ length (now marks) ⌝ }
-        ensures { λ r. ⌜ r ≡ count (isPresent (now (marks .entry))) (upTo (self .n)) ⌝ }
+    // The length of every present position is good: most often all are P.
+    pub fn lengths_good(self, lengths: &[u16], marks: &[u8]) -> bool
+        requires { ⌜ SetUp self × (self .n ≤ length (now lengths)) × (self .n ≤ length (now marks)) ⌝ }
+        ensures { λ r. ⌜ r ≡ lengthsGood self (now (lengths .entry)) (now (marks .entry)) ⌝ }
     {
-        let n = self.n;
-        let mut ones = 0;
-        let mut at = 0;
-        while at < n {
-            let to = block_end(at, n);
-            ones += ones_between(marks, at, to) as usize;
-            at = to;
+        if self.all_full(lengths, marks) {
+            return true;
         }
-        ones
+        self.each_good(lengths, marks)
     }
 }
 

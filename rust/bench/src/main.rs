@@ -1,9 +1,9 @@
-//! How fast the library is, against yardsticks that are measured in the same run. Every figure is the median of many runs; the buffers are
+//! How fast the library is, with payloads of full length, against yardsticks that are measured in the same run. Every figure is the median of many runs; the buffers are
 //! said beside each. Run it by tools/bench, on a machine that does nothing else.
 mod plain;
 mod traffic;
 
-use congaveil::{Outer, Receiver, Refusal, SetUp, PARITY_HEADER};
+use congaveil::{Outer, Receiver, Refusal, SetUp, Taken, PARITY_HEADER};
 use plain::Aligned;
 use std::{hint::black_box, time::Instant};
 use traffic::{media, parity, Stretch};
@@ -20,6 +20,11 @@ fn median<T, R>(runs: usize, mut ready: impl FnMut() -> T, mut thing: impl FnMut
         .collect();
     times.sort_by(f64::total_cmp);
     times[runs / 2]
+}
+
+/// An offer that rebuilt so many.
+fn taken(rebuilt: usize) -> Result<Taken, Refusal> {
+    Ok(Taken { rebuilt, spoilt: 0 })
 }
 
 fn open(l: usize, d: usize, payload: usize, positions: usize, records: usize) -> Receiver {
@@ -108,33 +113,33 @@ fn good_weather(positions: usize, records: usize, p: usize) -> (f64, f64) {
 /// A packet that rebuilds one other: the parity of a row of NA = L packets waits for two.
 fn rebuilds_one(na: usize, p: usize) -> f64 {
     let (mut waiting, stretch) = filled(na, 5, p, 100, 40, &|i| i < 2);
-    assert_eq!(waiting.row(&parity(&stretch, na, 5, true, 0)), Ok(0));
+    assert_eq!(waiting.row(&parity(&stretch, na, 5, true, 0)), taken(0));
     let late = media(&stretch, 0);
-    median(1001, || waiting.clone(), |r| assert_eq!(r.media(&late), Ok(1)))
+    median(1001, || waiting.clone(), |r| assert_eq!(r.media(&late), taken(1)))
 }
 
 /// A late packet that sets off `chain` rebuilds: every third packet is lost, and a row of four waits for each two neighbours.
 fn rebuilds_many(chain: usize, n: usize, k: usize, p: usize) -> f64 {
     let (mut waiting, stretch) = filled(4, 4, p, n, k, &|i| i % 3 == 0 && i <= 3 * chain);
     for i in 0..chain {
-        assert_eq!(waiting.row(&parity(&stretch, 4, 4, true, 3 * i)), Ok(0));
+        assert_eq!(waiting.row(&parity(&stretch, 4, 4, true, 3 * i)), taken(0));
     }
     let late = media(&stretch, 0);
-    median(301, || waiting.clone(), |r| assert_eq!(r.media(&late), Ok(chain)))
+    median(301, || waiting.clone(), |r| assert_eq!(r.media(&late), taken(chain)))
 }
 
 /// A parity packet that is held: two of its group are missing.
 fn holds(k: usize, p: usize) -> f64 {
     let (waiting, stretch) = filled(10, 10, p, 200, k, &|i| i < 2);
     let row = parity(&stretch, 10, 10, true, 0);
-    median(1001, || waiting.clone(), |r| assert_eq!(r.row(&row), Ok(0)))
+    median(1001, || waiting.clone(), |r| assert_eq!(r.row(&row), taken(0)))
 }
 
 /// A receiver with `used` records in use: rows of four that start at every third position, of which two in three are missing.
 fn waiting(n: usize, k: usize, used: usize, p: usize) -> (Receiver, Stretch) {
     let (mut receiver, stretch) = filled(4, 4, p, n, k, &|i| (i % 3 != 2 && i < 3 * used + 1) || i == n - 1);
     for i in 0..used {
-        assert_eq!(receiver.row(&parity(&stretch, 4, 4, true, 3 * i)), Ok(0));
+        assert_eq!(receiver.row(&parity(&stretch, 4, 4, true, 3 * i)), taken(0));
     }
     (receiver, stretch)
 }
@@ -143,7 +148,7 @@ fn waiting(n: usize, k: usize, used: usize, p: usize) -> (Receiver, Stretch) {
 fn stores(n: usize, k: usize, used: usize, p: usize) -> f64 {
     let (receiver, stretch) = waiting(n, k, used, p);
     let last = media(&stretch, n - 1);
-    median(1001, || receiver.clone(), |r| assert_eq!(r.media(&last), Ok(0)))
+    median(1001, || receiver.clone(), |r| assert_eq!(r.media(&last), taken(0)))
 }
 
 /// A row parity packet that finds none of its group missing, with some records in use.
@@ -151,7 +156,7 @@ fn finds_none(n: usize, k: usize, used: usize, p: usize) -> f64 {
     let (mut receiver, stretch) = waiting(n, k, used, p);
     receiver.media(&media(&stretch, n - 1)).unwrap();
     let row = parity(&stretch, 4, 4, true, n - 4);
-    median(1001, || (), |_| assert_eq!(receiver.row(&row), Ok(0)))
+    median(1001, || (), |_| assert_eq!(receiver.row(&row), taken(0)))
 }
 
 /// A datagram that is refused by its length, after the store was found in order.

@@ -1,7 +1,7 @@
 //! A card in Rust: opens a window at the first media packet of a capture, feeds it the capture with losses, and prints what
 //! was recovered and what stays missing.
 //!
-//!     cargo run --example card -- FILE L D PAYLOAD
+//!     cargo run --example card -- FILE L D PAYLOAD       (the largest payload, in bytes)
 //!
 //! A capture is a run of entries: one byte of kind (1 media, 2 column parity, 3 row parity), two bytes of length,
 //! big-endian, and the datagram. Lost here: positions 8 to 12, a burst of 16 from 40 on, and every 17th.

@@ -1,9 +1,9 @@
-use crate::{media_number, Packet, Receiver, Refusal, Store, NUMBERS, POSITIONS_MAX};
+use crate::{media_number, Packet, Receiver, Refusal, Store, Taken, NUMBERS, POSITIONS_MAX};
 use core::{fmt, ops::AddAssign};
 
 /// Sums over all windows that a [`Desk`] was begun with. They only grow, so a rate is the difference of two readings.
 ///
-/// As text they are one line: `received 169, recovered 21, late 0, missing 10, alarms 0, refused 26 (no. 13: 26)`.
+/// As text they are one line: `received 169, recovered 21, late 0, missing 10, alarms 0, spoilt 0, refused 26 (no. 13: 26)`.
 #[derive(Clone, Copy, Debug, Default, PartialEq, Eq)]
 pub struct Counters {
     /// Packets to come, when the windows were opened.
@@ -16,6 +16,8 @@ pub struct Counters {
     pub late: u64,
     /// Media refused with 15: a packet is present, and another one arrived.
     pub alarms: u64,
+    /// Parity packets released because the packet that they gave cannot be right.
+    pub spoilt: u64,
     /// Offers by answer: the first is of those taken in, the others of those refused with that number.
     pub answers: [u64; NUMBERS],
 }
@@ -53,6 +55,7 @@ impl AddAssign for Counters {
         self.rebuilt = self.rebuilt.wrapping_add(other.rebuilt);
         self.late = self.late.wrapping_add(other.late);
         self.alarms = self.alarms.wrapping_add(other.alarms);
+        self.spoilt = self.spoilt.wrapping_add(other.spoilt);
         for (sum, count) in self.answers.iter_mut().zip(other.answers) {
             *sum = sum.wrapping_add(count);
         }
@@ -62,7 +65,7 @@ impl AddAssign for Counters {
 impl fmt::Display for Counters {
     fn fmt(&self, f: &mut fmt::Formatter) -> fmt::Result {
         write!(f, "received {}, recovered {}, late {}, ", self.received, self.recovered(), self.late)?;
-        write!(f, "missing {}, alarms {}, refused {}", self.missing(), self.alarms, self.refused())?;
+        write!(f, "missing {}, alarms {}, spoilt {}, refused {}", self.missing(), self.alarms, self.spoilt, self.refused())?;
         let mut before = " (";
         for (number, count) in (0..NUMBERS).zip(self.answers).skip(1).filter(|(_, count)| *count > 0) {
             write!(f, "{before}no. {number}: {count}")?;
@@ -154,12 +157,12 @@ impl Desk {
         &self.counters
     }
 
-    /// Offers a datagram of the media port, and counts. Answers how many packets were rebuilt.
+    /// Offers a datagram of the media port, and counts. Answers what [`Receiver::media`] does.
     ///
     /// # Errors
     ///
     /// Those of [`Receiver::media`].
-    pub fn media<S: Store>(&mut self, receiver: &mut Receiver<S>, datagram: &[u8]) -> Result<usize, Refusal> {
+    pub fn media<S: Store>(&mut self, receiver: &mut Receiver<S>, datagram: &[u8]) -> Result<Taken, Refusal> {
         let answer = receiver.media(datagram);
         self.book(answer);
         let repeated = match answer {
@@ -189,23 +192,23 @@ impl Desk {
         answer
     }
 
-    /// Offers a datagram of the column parity port, and counts. Answers how many packets were rebuilt.
+    /// Offers a datagram of the column parity port, and counts. Answers what [`Receiver::column`] does.
     ///
     /// # Errors
     ///
     /// Those of [`Receiver::column`].
-    pub fn column<S: Store>(&mut self, receiver: &mut Receiver<S>, datagram: &[u8]) -> Result<usize, Refusal> {
+    pub fn column<S: Store>(&mut self, receiver: &mut Receiver<S>, datagram: &[u8]) -> Result<Taken, Refusal> {
         let answer = receiver.column(datagram);
         self.book(answer);
         answer
     }
 
-    /// Offers a datagram of the row parity port, and counts. Answers how many packets were rebuilt.
+    /// Offers a datagram of the row parity port, and counts. Answers what [`Receiver::row`] does.
     ///
     /// # Errors
     ///
     /// Those of [`Receiver::row`].
-    pub fn row<S: Store>(&mut self, receiver: &mut Receiver<S>, datagram: &[u8]) -> Result<usize, Refusal> {
+    pub fn row<S: Store>(&mut self, receiver: &mut Receiver<S>, datagram: &[u8]) -> Result<Taken, Refusal> {
         let answer = receiver.row(datagram);
         self.book(answer);
         answer
@@ -229,12 +232,13 @@ impl Desk {
         }
     }
 
-    fn book(&mut self, answer: Result<usize, Refusal>) {
+    fn book(&mut self, answer: Result<Taken, Refusal>) {
         let number = answer.map_or_else(Refusal::number, |_| 0);
         if let Some(count) = self.counters.answers.get_mut(number as usize) {
             add(count, 1);
         }
-        let rebuilt = answer.unwrap_or(0);
+        let Taken { rebuilt, spoilt } = answer.unwrap_or_default();
+        add(&mut self.counters.spoilt, spoilt as u64);
         if rebuilt > 0 {
             add(&mut self.counters.rebuilt, rebuilt as u64);
             self.untold = self.untold.saturating_add(rebuilt);

@@ -14,7 +14,7 @@ pub struct Window {
     pub l: usize,
     /// Rows of the parity matrix.
     pub d: usize,
-    /// Payload bytes of every media packet.
+    /// Payload bytes of a media packet at most.
     pub p: usize,
     /// Positions.
     pub n: usize,
@@ -27,12 +27,13 @@ pub struct Window {
 }
 
 // The layout that the library was compiled for; the order of the fields is the header's.
-const _: () = assert!(size_of::<usize>() == 8 && size_of::<Window>() == 64 && size_of::<Record>() == 8 && size_of::<Answer>() == 80);
+const _: () = assert!(size_of::<usize>() == 8 && size_of::<Window>() == 64 && size_of::<Record>() == 12 && size_of::<Answer>() == 88);
 
 #[repr(C)]
 pub struct Answer {
     pub number: u32,
     pub count: usize,
+    pub spoilt: usize,
     pub window: Window,
 }
 
@@ -45,6 +46,8 @@ pub type Offer = unsafe extern "C" fn(
     media_len: usize,
     timestamps: *mut u32,
     timestamps_len: usize,
+    lengths: *mut u16,
+    lengths_len: usize,
     marks: *mut u8,
     marks_len: usize,
     parity: *mut u8,
@@ -64,6 +67,8 @@ pub type Write = unsafe extern "C" fn(
     media_len: usize,
     timestamps: *const u32,
     timestamps_len: usize,
+    lengths: *const u16,
+    lengths_len: usize,
     marks: *const u8,
     marks_len: usize,
     parity: *const u8,
@@ -78,8 +83,8 @@ macro_rules! offers {
     ($($name:ident),*) => { $(
         pub fn $name(
             w: Window, datagram: *const u8, len: usize,
-            media: *mut u8, media_len: usize, timestamps: *mut u32, timestamps_len: usize, marks: *mut u8, marks_len: usize,
-            parity: *mut u8, parity_len: usize, records: *mut Record, records_len: usize,
+            media: *mut u8, media_len: usize, timestamps: *mut u32, timestamps_len: usize, lengths: *mut u16, lengths_len: usize,
+            marks: *mut u8, marks_len: usize, parity: *mut u8, parity_len: usize, records: *mut Record, records_len: usize,
         ) -> Answer;
     )* };
 }
@@ -88,8 +93,9 @@ macro_rules! writes {
     ($($name:ident),*) => { $(
         pub fn $name(
             w: Window, snbase: u16, sequence: u16, timestamp: u32, ssrc: u32,
-            media: *const u8, media_len: usize, timestamps: *const u32, timestamps_len: usize, marks: *const u8, marks_len: usize,
-            parity: *const u8, parity_len: usize, records: *const Record, records_len: usize, out: *mut u8, out_len: usize,
+            media: *const u8, media_len: usize, timestamps: *const u32, timestamps_len: usize, lengths: *const u16, lengths_len: usize,
+            marks: *const u8, marks_len: usize, parity: *const u8, parity_len: usize, records: *const Record, records_len: usize,
+            out: *mut u8, out_len: usize,
         ) -> Answer;
     )* };
 }
@@ -107,6 +113,8 @@ extern "C" {
         media_len: usize,
         timestamps: *mut u32,
         timestamps_len: usize,
+        lengths: *mut u16,
+        lengths_len: usize,
         marks: *mut u8,
         marks_len: usize,
         parity: *mut u8,
@@ -122,6 +130,8 @@ extern "C" {
         media_len: usize,
         timestamps: *const u32,
         timestamps_len: usize,
+        lengths: *const u16,
+        lengths_len: usize,
         marks: *const u8,
         marks_len: usize,
         parity: *const u8,

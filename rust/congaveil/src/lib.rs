@@ -4,21 +4,21 @@
 //!
 //! A [`Receiver`] is a window over consecutive packets. Offer it every datagram that arrives, on the port that it came
 //! in on; it answers how many packets the datagram let it rebuild, or why it refused the datagram. A refusal
-//! changes nothing.
+//! changes nothing. Payloads have one or more whole transport packets, each its own number of them, up to the window's size.
 //!
 //! ```
 //! # #[cfg(feature = "std")]
 //! # fn main() -> Result<(), congaveil::Refusal> {
-//! use congaveil::{Receiver, Refusal, SetUp};
+//! use congaveil::{Receiver, Refusal, SetUp, Taken};
 //!
-//! let set_up = SetUp { base: 65_530, l: 4, d: 4, payload: 188, positions: 16, records: 8, ssrc: 1 };
+//! let set_up = SetUp { base: 65_530, l: 4, d: 4, payload: 1316, positions: 16, records: 8, ssrc: 1 };
 //! let mut receiver = Receiver::open(set_up)?;
 //!
-//! // A media packet: RTP version 2, payload type 33, number 65,530, timestamp 1,000, and 188 bytes.
+//! // A media packet: RTP version 2, payload type 33, number 65,530, timestamp 1,000, and two transport packets.
 //! let mut datagram = vec![0x80, 33, 0xff, 0xfa, 0, 0, 0x03, 0xe8, 0, 0, 0, 9];
-//! datagram.extend([7; 188]);
+//! datagram.extend([7; 2 * 188]);
 //!
-//! assert_eq!(receiver.media(&datagram), Ok(0)); // taken in; nothing to rebuild
+//! assert_eq!(receiver.media(&datagram), Ok(Taken { rebuilt: 0, spoilt: 0 })); // taken in; nothing to rebuild
 //! assert_eq!(receiver.media(&datagram), Err(Refusal::Repeat));
 //! assert_eq!(receiver.payload(65_530), Some(&datagram[12..])); // where it lies in the store
 //! assert_eq!(receiver.packet(65_530)?[12..], datagram[12..]); // a datagram of its own
@@ -31,8 +31,11 @@
 //!
 //! A [`Desk`] beside the receiver tells which packets were rebuilt, and counts for the operator.
 //!
-//! # What to do with a refusal
+//! # What to do with an answer
 //!
+//! - [`Taken`] has the packets rebuilt, and the parity packets that were spoilt: what they gave cannot be right. They are
+//!   released, and the packet stays missing unless other parity gives it. Unaltered traffic never shows one: parity was
+//!   damaged or forged, or a media packet of its group was, which may have gone to air.
 //! - [`Outside`](Refusal::Outside), [`Repeat`](Refusal::Repeat) and [`Full`](Refusal::Full) are routine: of another
 //!   window, already there, no room for it now.
 //! - [`Differs`](Refusal::Differs) on media is **the alarm**: a packet already marked present differs from the one that
@@ -70,7 +73,7 @@ mod store;
 pub use datagram::{media_number, parity_snbase};
 pub use desk::{Counters, Desk, How, Rebuilt};
 pub use face::Window;
-pub use receiver::{Outer, Packet, Receiver, SetUp};
+pub use receiver::{Outer, Packet, Receiver, SetUp, Taken};
 pub use refusal::Refusal;
 #[cfg(feature = "std")]
 pub use store::Owned;

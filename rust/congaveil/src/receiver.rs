@@ -4,7 +4,7 @@ use crate::{Owned, MEDIA_HEADER, PAYLOAD_MAX};
 #[cfg(feature = "std")]
 use std::vec::Vec;
 
-/// A call with the five parts of a store lent between its other arguments: to be written (`as_mut_ptr`) or only read (`as_ptr`).
+/// A call with the six parts of a store lent between its other arguments: to be written (`as_mut_ptr`) or only read (`as_ptr`).
 macro_rules! lend {
     ($call:expr, [$($before:expr),*], $store:expr, $pointer:ident, [$($after:expr),*]) => {
         $call(
@@ -13,6 +13,8 @@ macro_rules! lend {
             $store.media.len(),
             $store.timestamps.$pointer(),
             $store.timestamps.len(),
+            $store.lengths.$pointer(),
+            $store.lengths.len(),
             $store.marks.$pointer(),
             $store.marks.len(),
             $store.parity.$pointer(),
@@ -33,7 +35,8 @@ pub struct SetUp {
     pub l: usize,
     /// Rows of the parity matrix, 4 to 20; l × d is at most 100.
     pub d: usize,
-    /// Payload bytes of every media packet: 1 to 7 transport packets of 188 or of 204 bytes.
+    /// P, the payload bytes of a media packet at most: 1 to 7 transport packets of 188 or of 204 bytes. A payload is one or more
+    /// of these, each packet its own number of them.
     pub payload: usize,
     /// Positions, l × d to 400.
     pub positions: usize,
@@ -54,6 +57,16 @@ pub struct Outer {
     pub ssrc: u32,
 }
 
+/// What an offer did that was taken in.
+#[derive(Clone, Copy, Debug, Default, PartialEq, Eq)]
+pub struct Taken {
+    /// Packets that were rebuilt.
+    pub rebuilt: usize,
+    /// Parity packets that were released because the packet that they gave cannot be right: without a byte, not whole transport
+    /// packets, longer than the parity, or with bytes past its end. Unaltered traffic never shows one.
+    pub spoilt: usize,
+}
+
 /// A packet that is present, where it lies in the store.
 #[derive(Clone, Copy, Debug, PartialEq, Eq)]
 pub struct Packet<'a> {
@@ -61,7 +74,7 @@ pub struct Packet<'a> {
     pub number: u16,
     /// Its RTP timestamp.
     pub timestamp: u32,
-    /// Its payload.
+    /// Its payload, at its true length.
     pub payload: &'a [u8],
 }
 
@@ -113,34 +126,35 @@ impl<S: Store> Receiver<S> {
         Ok(Receiver { window: answer.window, store })
     }
 
-    /// Offers a datagram of the media port. Answers how many packets were rebuilt.
+    /// Offers a datagram of the media port. Answers how many packets were rebuilt, and how many parity packets were spoilt.
     ///
     /// # Errors
     ///
     /// Refusals 1 to 9 and 13 to 15. On media, 15 ([`Refusal::Differs`]) is the alarm.
-    pub fn media(&mut self, datagram: &[u8]) -> Result<usize, Refusal> {
+    pub fn media(&mut self, datagram: &[u8]) -> Result<Taken, Refusal> {
         self.offer(face::cgv_media, datagram)
     }
 
-    /// Offers a datagram of the column parity port. Answers how many packets were rebuilt.
+    /// Offers a datagram of the column parity port. Answers how many packets were rebuilt, and how many parity packets were spoilt.
     ///
     /// # Errors
     ///
     /// Refusals 1 to 16.
-    pub fn column(&mut self, datagram: &[u8]) -> Result<usize, Refusal> {
+    pub fn column(&mut self, datagram: &[u8]) -> Result<Taken, Refusal> {
         self.offer(face::cgv_column, datagram)
     }
 
-    /// Offers a datagram of the row parity port. Answers how many packets were rebuilt.
+    /// Offers a datagram of the row parity port. Answers how many packets were rebuilt, and how many parity packets were spoilt.
     ///
     /// # Errors
     ///
     /// Refusals 1 to 16.
-    pub fn row(&mut self, datagram: &[u8]) -> Result<usize, Refusal> {
+    pub fn row(&mut self, datagram: &[u8]) -> Result<Taken, Refusal> {
         self.offer(face::cgv_row, datagram)
     }
 
-    /// Writes the packet of a number as a datagram, [`MEDIA_HEADER`](crate::MEDIA_HEADER) + payload bytes. Answers how many bytes.
+    /// Writes the packet of a number as a datagram: [`MEDIA_HEADER`](crate::MEDIA_HEADER) and its payload. Answers how many bytes;
+    /// there has to be room for the largest packet, and the rest of it stays as it is.
     ///
     /// # Errors
     ///
@@ -152,7 +166,8 @@ impl<S: Store> Receiver<S> {
         Refusal::check(&answer)
     }
 
-    /// Writes the parity datagram of the column that starts at a number, [`PARITY_HEADER`](crate::PARITY_HEADER) + payload bytes. Answers how many bytes.
+    /// Writes the parity datagram of the column that starts at a number: [`PARITY_HEADER`](crate::PARITY_HEADER) and as many bytes
+    /// as the longest payload of the group. Answers how many bytes; there has to be room for the largest packet.
     ///
     /// # Errors
     ///
@@ -161,7 +176,8 @@ impl<S: Store> Receiver<S> {
         self.write(face::cgv_write_column, snbase, outer, out)
     }
 
-    /// Writes the parity datagram of the row that starts at a number, [`PARITY_HEADER`](crate::PARITY_HEADER) + payload bytes. Answers how many bytes.
+    /// Writes the parity datagram of the row that starts at a number: [`PARITY_HEADER`](crate::PARITY_HEADER) and as many bytes
+    /// as the longest payload of the group. Answers how many bytes; there has to be room for the largest packet.
     ///
     /// # Errors
     ///
@@ -188,7 +204,8 @@ impl<S: Store> Receiver<S> {
         self.marked(self.position(number))
     }
 
-    /// The payload of a number where it lies in the store, or `None` where its packet is missing or not of the window.
+    /// The payload of a number where it lies in the store, at its true length, or `None` where its packet is missing or not of the
+    /// window.
     #[must_use]
     pub fn payload(&self, number: u16) -> Option<&[u8]> {
         self.packet_at(self.position(number)).map(|packet| packet.payload)
@@ -243,19 +260,21 @@ impl<S: Store> Receiver<S> {
         }
         let s = self.store.shown();
         let start = position.checked_mul(self.window.p)?;
+        let place = s.media.get(start..start.checked_add(self.window.p)?)?;
+        let length = usize::from(*s.lengths.get(position)?);
         Some(Packet {
             number: self.window.base.wrapping_add(position as u16),
             timestamp: *s.timestamps.get(position)?,
-            payload: s.media.get(start..start.checked_add(self.window.p)?)?,
+            payload: place.get(..length).unwrap_or(place),
         })
     }
 
-    fn offer(&mut self, call: face::Offer, datagram: &[u8]) -> Result<usize, Refusal> {
+    fn offer(&mut self, call: face::Offer, datagram: &[u8]) -> Result<Taken, Refusal> {
         let s = self.store.lent();
         // SAFETY: as in `open_in`; the datagram is borrowed apart from the store.
         let answer = unsafe { lend!(call, [self.window, datagram.as_ptr(), datagram.len()], s, as_mut_ptr, []) };
         self.window = answer.window;
-        Refusal::check(&answer)
+        Ok(Taken { rebuilt: Refusal::check(&answer)?, spoilt: answer.spoilt })
     }
 
     fn write(&self, call: face::Write, snbase: u16, outer: Outer, out: &mut [u8]) -> Result<usize, Refusal> {

@@ -21,11 +21,11 @@ pub enum Refusal {
     BadRtpHeader = 7,
     /// Not 33 (media) or 96 (parity).
     BadPayloadType = 8,
-    /// Payload part not exactly P bytes.
+    /// Payload part not one or more whole transport packets up to P.
     BadLength = 9,
     /// E not 1, or mask, X, type, index or SNBase ext not 0.
     BadFecHeader = 10,
-    /// PT or length recovery not the profile's.
+    /// PT recovery not the profile's.
     BadRecovery = 11,
     /// Wrong port, Offset or NA, or a row where L < 4.
     BadShape = 12,
@@ -84,9 +84,9 @@ impl fmt::Display for Refusal {
             Refusal::ShortDatagram => "datagram shorter than its headers",
             Refusal::BadRtpHeader => "RTP version not 2, or padding, extension, CSRC or marker set",
             Refusal::BadPayloadType => "payload type not that of the port",
-            Refusal::BadLength => "payload not of the window's size",
+            Refusal::BadLength => "payload not whole transport packets up to the window's size",
             Refusal::BadFecHeader => "parity header: E, mask, X, type, index or SNBase ext",
-            Refusal::BadRecovery => "payload type or length recovery not the profile's",
+            Refusal::BadRecovery => "payload type recovery not the profile's",
             Refusal::BadShape => "parity not of this port and profile",
             Refusal::Outside => "outside the window",
             Refusal::Repeat => "already held",

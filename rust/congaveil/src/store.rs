@@ -15,18 +15,24 @@ pub struct Record {
     pub snbase: u16,
     /// The exclusive-or of the group's timestamps.
     pub timestamp_recovery: u32,
+    /// The exclusive-or of the lengths of the group's payloads.
+    pub length_recovery: u16,
+    /// The bytes of its own payload.
+    pub payload_length: u16,
 }
 
-/// A store that is lent: n × P bytes of media, n timestamps, n marks, K × P bytes of parity and K records, or more.
+/// A store that is lent: n × P bytes of media, n timestamps, n lengths, n marks, K × P bytes of parity and K records, or more.
 #[derive(Debug)]
 pub struct Lent<'a> {
-    /// The payload of position i stands at i × P.
+    /// The payload of position i stands at i × P, with zeros up to P.
     pub media: &'a mut [u8],
     /// The RTP timestamps of the positions.
     pub timestamps: &'a mut [u32],
+    /// The payload bytes of the positions.
+    pub lengths: &'a mut [u16],
     /// 1 where the packet of a position is present, 0 where it is missing.
     pub marks: &'a mut [u8],
-    /// The payload of record j stands at j × P.
+    /// The payload of record j stands at j × P, with zeros up to P.
     pub parity: &'a mut [u8],
     /// The parity packets in hand.
     pub records: &'a mut [Record],
@@ -37,6 +43,7 @@ pub struct Lent<'a> {
 pub struct Shown<'a> {
     pub media: &'a [u8],
     pub timestamps: &'a [u32],
+    pub lengths: &'a [u16],
     pub marks: &'a [u8],
     pub parity: &'a [u8],
     pub records: &'a [Record],
@@ -48,6 +55,7 @@ pub struct Shown<'a> {
 pub struct Owned {
     media: Vec<u8>,
     timestamps: Vec<u32>,
+    lengths: Vec<u16>,
     marks: Vec<u8>,
     parity: Vec<u8>,
     records: Vec<Record>,
@@ -61,6 +69,7 @@ impl Owned {
         Owned {
             media: vec![0; n * p],
             timestamps: vec![0; n],
+            lengths: vec![0; n],
             marks: vec![0; n],
             parity: vec![0; k * p],
             records: vec![Record::default(); k],
@@ -89,21 +98,43 @@ impl Store for Owned {
         Lent {
             media: &mut self.media,
             timestamps: &mut self.timestamps,
+            lengths: &mut self.lengths,
             marks: &mut self.marks,
             parity: &mut self.parity,
             records: &mut self.records,
         }
     }
     fn shown(&self) -> Shown<'_> {
-        Shown { media: &self.media, timestamps: &self.timestamps, marks: &self.marks, parity: &self.parity, records: &self.records }
+        Shown {
+            media: &self.media,
+            timestamps: &self.timestamps,
+            lengths: &self.lengths,
+            marks: &self.marks,
+            parity: &self.parity,
+            records: &self.records,
+        }
     }
 }
 
 impl Store for Lent<'_> {
     fn lent(&mut self) -> Lent<'_> {
-        Lent { media: self.media, timestamps: self.timestamps, marks: self.marks, parity: self.parity, records: self.records }
+        Lent {
+            media: self.media,
+            timestamps: self.timestamps,
+            lengths: self.lengths,
+            marks: self.marks,
+            parity: self.parity,
+            records: self.records,
+        }
     }
     fn shown(&self) -> Shown<'_> {
-        Shown { media: self.media, timestamps: self.timestamps, marks: self.marks, parity: self.parity, records: self.records }
+        Shown {
+            media: self.media,
+            timestamps: self.timestamps,
+            lengths: self.lengths,
+            marks: self.marks,
+            parity: self.parity,
+            records: self.records,
+        }
     }
 }

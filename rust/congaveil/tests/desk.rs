@@ -1,9 +1,14 @@
 //! The desk: which packets were rebuilt, and the counters, over a capture of GStreamer without a loss and over packets made
 //! here; and what is read where it lies in the store.
-use congaveil::{media_number, parity_snbase, Counters, Desk, How, Lent, Packet, Receiver, Record, Refusal, SetUp, Window};
+use congaveil::{media_number, parity_snbase, Counters, Desk, How, Lent, Packet, Receiver, Record, Refusal, SetUp, Taken, Window};
 
 const BASE: u16 = 65_530;
 const SET_UP: SetUp = SetUp { base: BASE, l: 4, d: 4, payload: 188, positions: 16, records: 8, ssrc: 7 };
+
+/// An offer that was taken in and rebuilt so many, with nothing spoilt.
+fn taken(rebuilt: usize) -> Result<Taken, Refusal> {
+    Ok(Taken { rebuilt, spoilt: 0 })
+}
 
 fn at(position: u16) -> u16 {
     BASE.wrapping_add(position)
@@ -66,6 +71,59 @@ fn without_a_loss() {
     assert_eq!((c.received, c.missing(), r.present() as u64), (offered, 400 - offered, offered));
 }
 
+/// The same with payloads of several lengths: each packet that is told has its own.
+#[test]
+fn of_mixed_lengths() {
+    let mut capture: &[u8] = include_bytes!("../../../captures/gst_4x4_mixed.cap");
+    let base = media_number(&capture[3..]).unwrap();
+    let mut r = Receiver::open(SetUp { base, payload: 1316, positions: 400, records: 128, ..SET_UP }).unwrap();
+    let (mut desk, mut sent, mut told) = (Desk::new(), vec![], vec![]);
+    desk.begin(&r);
+    while !capture.is_empty() {
+        let len = usize::from(u16::from_be_bytes([capture[1], capture[2]]));
+        let datagram = &capture[3..3 + len];
+        let _ = match capture[0] {
+            1 => {
+                sent.push(&datagram[12..]);
+                desk.media(&mut r, datagram)
+            }
+            2 => desk.column(&mut r, datagram),
+            _ => desk.row(&mut r, datagram),
+        };
+        told.extend(desk.rebuilt(&r).map(|packet| (packet.number, packet.payload.to_vec())));
+        capture = &capture[3 + len..];
+    }
+    assert_eq!((told.len() as u64, desk.counters().spoilt), (desk.counters().rebuilt, 0));
+    for (number, payload) in &told {
+        assert_eq!(payload[..], *sent[r.position(*number)]);
+    }
+    assert!(told.iter().any(|(_, payload)| payload.len() < 1316));
+    assert!(r.packets().map(|packet| packet.payload).eq(sent));
+}
+
+/// Parity that gives a packet which cannot be right is counted, and nothing is told.
+#[test]
+fn spoilt() {
+    let mut r = Receiver::open(SET_UP).unwrap();
+    let mut desk = Desk::new();
+    desk.begin(&r);
+    for i in (1..16).filter(|i| *i != 4) {
+        assert_eq!(desk.media(&mut r, &media(at(i), byte_of(at(i)))), taken(0));
+    }
+    let (mut row, mut column) = (parity(true, at(0)), parity(false, at(0)));
+    row[15] = 1;
+    column[14..16].copy_from_slice(&188u16.to_be_bytes());
+    assert_eq!(desk.row(&mut r, &row), Ok(Taken { rebuilt: 0, spoilt: 1 }));
+    assert_eq!(desk.column(&mut r, &column), taken(0));
+    assert_eq!((r.in_hand(), desk.counters().spoilt), (1, 1));
+    assert_eq!(desk.media(&mut r, &media(at(4), byte_of(at(4)))), Ok(Taken { rebuilt: 0, spoilt: 1 }));
+    assert_eq!((r.in_hand(), numbers(&mut desk, &r), r.missing().collect::<Vec<_>>()), (0, vec![], vec![at(0)]));
+    assert_eq!(desk.counters().to_string(), "received 15, recovered 0, late 0, missing 1, alarms 0, spoilt 2, refused 0");
+    let mut sum = *desk.counters();
+    sum += sum;
+    assert_eq!(sum.spoilt, 4);
+}
+
 /// Case 11 of the bench with a desk: four lost, three rebuilt at a stroke; then late ones, a repeat, and the alarm.
 #[test]
 fn at_a_stroke() {
@@ -73,14 +131,14 @@ fn at_a_stroke() {
     let mut desk = Desk::default();
     desk.begin(&r);
     for i in (0..16).filter(|i| ![0, 1, 4, 5].contains(i)) {
-        assert_eq!(desk.media(&mut r, &media(at(i), byte_of(at(i)))), Ok(0));
+        assert_eq!(desk.media(&mut r, &media(at(i), byte_of(at(i)))), taken(0));
     }
     for i in 0..2 {
-        assert_eq!(desk.column(&mut r, &parity(false, at(i))), Ok(0));
-        assert_eq!(desk.row(&mut r, &parity(true, at(4 * i))), Ok(0));
+        assert_eq!(desk.column(&mut r, &parity(false, at(i))), taken(0));
+        assert_eq!(desk.row(&mut r, &parity(true, at(4 * i))), taken(0));
     }
     assert_eq!((desk.counters().answers[0], numbers(&mut desk, &r)), (16, vec![]));
-    assert_eq!(desk.media(&mut r, &media(at(5), byte_of(at(5)))), Ok(3));
+    assert_eq!(desk.media(&mut r, &media(at(5), byte_of(at(5)))), taken(3));
     assert_eq!(desk.how(&r, at(1)), How::Rebuilt);
     let payload = [byte_of(at(0)); 188];
     assert_eq!(desk.rebuilt(&r).next(), Some(Packet { number: at(0), timestamp: 9, payload: &payload }));
@@ -99,7 +157,7 @@ fn at_a_stroke() {
     assert_eq!(desk.media(&mut r, &[0; 11]), Err(Refusal::ShortDatagram));
     let how = |position| desk.how(&r, at(position));
     assert_eq!([how(0), how(3), how(4), how(16)], [How::Late, How::Arrived, How::Rebuilt, How::Missing]);
-    let line = "received 15, recovered 1, late 2, missing 0, alarms 2, refused 7 (no. 6: 1, no. 13: 1, no. 14: 3, no. 15: 2)";
+    let line = "received 15, recovered 1, late 2, missing 0, alarms 2, spoilt 0, refused 7 (no. 6: 1, no. 13: 1, no. 14: 3, no. 15: 2)";
     assert_eq!(desk.counters().to_string(), line);
     let mut sum = *desk.counters();
     sum += *desk.counters();
@@ -107,7 +165,7 @@ fn at_a_stroke() {
     let r = Receiver::open(SET_UP).unwrap(); // the next window: the counters go on
     desk.begin(&r);
     assert_eq!((numbers(&mut desk, &r), desk.counters().missing()), (vec![], 16));
-    assert_eq!(Counters::default().to_string(), "received 0, recovered 0, late 0, missing 0, alarms 0, refused 0");
+    assert_eq!(Counters::default().to_string(), "received 0, recovered 0, late 0, missing 0, alarms 0, spoilt 0, refused 0");
 }
 
 /// What is read where it lies, and the numbers of a datagram for routing.
@@ -135,11 +193,12 @@ fn made_up() {
     let sizes = [0, 1, 15, 16, 17, 399, 400, 401, 65_536, 1 << 46, usize::MAX];
     for n in sizes {
         for p in sizes {
-            let (mut media_part, mut timestamps, mut marks) = (vec![1; 16 * 188], [1; 15], [1; 16]);
+            let (mut media_part, mut timestamps, mut lengths, mut marks) = (vec![1; 16 * 188], [1; 15], [u16::MAX; 14], [1; 16]);
             let (mut parity_part, mut records) = ([1; 8 * 188], [Record::default(); 8]);
             let lent = Lent {
                 media: &mut media_part,
                 timestamps: &mut timestamps,
+                lengths: &mut lengths,
                 marks: &mut marks,
                 parity: &mut parity_part,
                 records: &mut records,
@@ -157,7 +216,7 @@ fn made_up() {
         }
     }
     let most = u64::MAX;
-    let mut c = Counters { positions: most, received: most, rebuilt: most, late: most, alarms: most, answers: [most; 18] };
+    let mut c = Counters { positions: most, received: most, rebuilt: most, late: most, alarms: most, spoilt: most, answers: [most; 18] };
     c += c;
     assert_eq!((c.recovered(), c.missing(), c.positions), (0, 0, most - 1));
     assert!(c.to_string().len() < 768); // the room that the C header names
@@ -172,7 +231,7 @@ fn another_window() {
     for i in (0..16).filter(|i| *i != 3) {
         desk.media(&mut r, &media(at(i), byte_of(at(i)))).unwrap();
     }
-    assert_eq!(desk.row(&mut r, &parity(true, at(0))), Ok(1));
+    assert_eq!(desk.row(&mut r, &parity(true, at(0))), taken(1));
     let other = Receiver::open(SetUp { l: 1, positions: 4, ..SET_UP }).unwrap();
     assert_eq!(numbers(&mut desk, &other), []);
 }

@@ -1,9 +1,14 @@
 //! Every number of document 01 is reached through the safe face; a refusal changes nothing; nothing is touched past the need.
-use congaveil::{Lent, Outer, Receiver, Record, Refusal, SetUp, Window, MEDIA_HEADER, PARITY_HEADER};
+use congaveil::{Lent, Outer, Receiver, Record, Refusal, SetUp, Taken, Window, MEDIA_HEADER, PARITY_HEADER};
 
 const P: usize = 188;
 const BASE: u16 = 65_530;
 const SET_UP: SetUp = SetUp { base: BASE, l: 4, d: 4, payload: P, positions: 16, records: 8, ssrc: 7 };
+
+/// An offer that was taken in and rebuilt so many, with nothing spoilt.
+fn taken(rebuilt: usize) -> Result<Taken, Refusal> {
+    Ok(Taken { rebuilt, spoilt: 0 })
+}
 
 fn stamp(number: u16) -> u32 {
     3000 * u32::from(number) + 5
@@ -70,7 +75,7 @@ fn media_offers() {
     assert_eq!(r.media(&good[..MEDIA_HEADER + P - 1]), Err(Refusal::BadLength));
     assert_eq!(r.media(&media(BASE.wrapping_sub(1), 1)), Err(Refusal::Outside));
     assert_eq!(r.present(), 0);
-    assert_eq!(r.media(&good), Ok(0));
+    assert_eq!(r.media(&good), taken(0));
     assert_eq!(r.media(&good), Err(Refusal::Repeat));
     assert_eq!(r.media(&with(good, 12, 0)), Err(Refusal::Differs));
     assert_eq!(r.packet(BASE), Ok(media(BASE, 7)));
@@ -88,7 +93,7 @@ fn parity_offers() {
     assert_eq!(r.column(&with(column.clone(), 16, 0x80 | 33)), Err(Refusal::BadRecovery));
     assert_eq!(r.row(&column), Err(Refusal::BadShape));
     assert_eq!(r.column(&parity(false, BASE.wrapping_add(4))), Err(Refusal::Outside));
-    assert_eq!(r.row(&parity(true, BASE)), Ok(0));
+    assert_eq!(r.row(&parity(true, BASE)), taken(0));
     assert_eq!(r.in_hand(), 1);
     assert_eq!(r.row(&parity(true, BASE)), Err(Refusal::Repeat));
     assert_eq!(r.row(&with(parity(true, BASE), 20, 0xff)), Err(Refusal::Differs));
@@ -100,17 +105,17 @@ fn three_at_a_stroke() {
     let mut r = open(SET_UP);
     let at = |i: u16| BASE.wrapping_add(i);
     for i in (0..16).filter(|i| ![0, 1, 4, 5].contains(i)) {
-        assert_eq!(r.media(&media(at(i), 1)), Ok(0));
+        assert_eq!(r.media(&media(at(i), 1)), taken(0));
     }
     for i in [0, 1] {
-        assert_eq!(r.column(&parity(false, at(i))), Ok(0));
-        assert_eq!(r.row(&parity(true, at(4 * i))), Ok(0));
+        assert_eq!(r.column(&parity(false, at(i))), taken(0));
+        assert_eq!(r.row(&parity(true, at(4 * i))), taken(0));
     }
     assert_eq!(r.missing().collect::<Vec<_>>(), [at(0), at(1), at(4), at(5)]);
     let mut out = [0xA5; PARITY_HEADER + P + 1];
     assert_eq!(r.write_row(at(0), Outer::default(), &mut out), Err(Refusal::Missing));
     assert_eq!(out, [0xA5; PARITY_HEADER + P + 1]);
-    assert_eq!(r.media(&media(at(5), 1)), Ok(3));
+    assert_eq!(r.media(&media(at(5), 1)), taken(3));
     assert_eq!((r.present(), r.in_hand(), r.missing().count()), (16, 0, 0));
     for i in 0..16 {
         assert_eq!(r.packet(at(i)), Ok(media(at(i), 7)));
@@ -125,29 +130,33 @@ fn three_at_a_stroke() {
 /// A store of the card's own, longer than needed and full of old bytes, that is looked at between the calls.
 #[test]
 fn a_lent_store() {
-    let old = Record { stream: 9, snbase: 9, timestamp_recovery: 9, in_use: 9 };
-    let (mut media_part, mut timestamps, mut marks) = (vec![9; 16 * P + 3], [9; 17], [9; 18]);
+    let old = Record { stream: 9, snbase: 9, timestamp_recovery: 9, length_recovery: 9, payload_length: 9, in_use: 9 };
+    let (mut media_part, mut timestamps, mut lengths, mut marks) = (vec![9; 16 * P + 3], [9; 17], [9; 20], [9; 18]);
     let (mut parity_part, mut records) = (vec![9; 8 * P + 1], [old; 9]);
     {
         let lent = Lent {
             media: &mut media_part,
             timestamps: &mut timestamps,
+            lengths: &mut lengths,
             marks: &mut marks,
             parity: &mut parity_part,
             records: &mut records,
         };
         let mut r = Receiver::open_in(SET_UP, lent).unwrap();
-        assert_eq!(r.row(&parity(true, BASE)), Ok(0));
-        assert_eq!(r.media(&media(BASE, 1)), Ok(0));
+        assert_eq!(r.row(&parity(true, BASE)), taken(0));
+        assert_eq!(r.media(&media(BASE, 1)), taken(0));
     }
     assert_eq!(
-        (&media_part[16 * P..], timestamps[16], &marks[16..], parity_part[8 * P], records[8]),
-        (&[9; 3][..], 9, &[9; 2][..], 9, old)
+        (&media_part[16 * P..], timestamps[16], &lengths[16..], &marks[16..], parity_part[8 * P], records[8]),
+        (&[9; 3][..], 9, &[9; 4][..], &[9; 2][..], 9, old)
     );
-    assert_eq!(records[0], Record { stream: 1, snbase: BASE, timestamp_recovery: records[0].timestamp_recovery, in_use: 1 });
+    let time = (0..4).fold(0, |t, i| t ^ stamp(BASE.wrapping_add(i)));
+    let held = Record { stream: 1, snbase: BASE, timestamp_recovery: time, length_recovery: 0, payload_length: P as u16, in_use: 1 };
+    assert_eq!((records[0], lengths[..2].to_vec()), (held, vec![P as u16, 0]));
     let short = Lent {
         media: &mut media_part,
         timestamps: &mut timestamps,
+        lengths: &mut lengths,
         marks: &mut marks,
         parity: &mut parity_part,
         records: &mut records[..7],
@@ -159,10 +168,16 @@ fn a_lent_store() {
 #[test]
 fn parts() {
     let mut marks = [0; 16];
-    let (mut media_part, mut timestamps) = (vec![0; 16 * P], [0; 16]);
+    let (mut media_part, mut timestamps, mut lengths) = (vec![0; 16 * P], [0; 16], [0; 16]);
     let (mut parity_part, mut records) = (vec![0; 8 * P], [Record::default(); 8]);
-    let lent =
-        Lent { media: &mut media_part, timestamps: &mut timestamps, marks: &mut marks, parity: &mut parity_part, records: &mut records };
+    let lent = Lent {
+        media: &mut media_part,
+        timestamps: &mut timestamps,
+        lengths: &mut lengths,
+        marks: &mut marks,
+        parity: &mut parity_part,
+        records: &mut records,
+    };
     let (window, lent) = Receiver::open_in(SET_UP, lent).unwrap().into_parts();
     lent.marks[3] = 2;
     let mut r = Receiver::from_parts(window, lent);
@@ -173,7 +188,53 @@ fn parts() {
     assert_eq!(r.media(&media(BASE, 1)), Err(Refusal::BadProfile));
     assert_eq!((r.has(BASE), r.missing().count()), (false, 0));
     let (_, lent) = r.into_parts();
-    assert_eq!(Receiver::from_parts(window, lent).media(&media(BASE, 1)), Ok(0));
+    assert_eq!(Receiver::from_parts(window, lent).media(&media(BASE, 1)), taken(0));
+}
+
+/// A row of four whose payloads have one, two, three and one transport packets, in a window of three; each of them in turn is rebuilt at
+/// its length, and a lie about it is spoilt.
+#[test]
+fn lengths() {
+    let units = [1, 2, 3, 1];
+    let set_up = SetUp { payload: 3 * P, ..SET_UP };
+    let at = |i: usize| BASE.wrapping_add(i as u16);
+    let sent: Vec<Vec<u8>> = (0..4)
+        .map(|i| {
+            let mut g = rtp(33, at(i), stamp(at(i)), 7);
+            g.extend((0..units[i] * P).map(|j| byte(at(i), j)));
+            g
+        })
+        .collect();
+    let mut sender = open(set_up);
+    for g in &sent {
+        assert_eq!(sender.media(g), taken(0));
+    }
+    for i in 0..4 {
+        assert_eq!((sender.packet(at(i)), sender.payload(at(i))), (Ok(sent[i].clone()), Some(&sent[i][12..])));
+    }
+    let mut row = [0xA5; PARITY_HEADER + 3 * P];
+    assert_eq!(sender.write_row(BASE, Outer::default(), &mut row[1..]), Err(Refusal::ShortBuffer));
+    assert_eq!(sender.write_row(BASE, Outer::default(), &mut row), Ok(PARITY_HEADER + 3 * P));
+    assert_eq!(u16::from_be_bytes([row[14], row[15]]) as usize, (2 * P) ^ (3 * P));
+    for lost in 0..4 {
+        let mut r = open(set_up);
+        for (_, g) in sent.iter().enumerate().filter(|(i, _)| *i != lost) {
+            assert_eq!(r.media(g), taken(0));
+        }
+        for (at_byte, by) in [(15, 1), (14, 0x80), (16 + 12 + 3 * P - 1, 1)] {
+            let lie = with(row.to_vec(), at_byte, row[at_byte] ^ by);
+            // The last byte belongs to the packet of three transport packets: there it is no lie that shows.
+            if units[lost] < 3 || at_byte < 16 {
+                assert_eq!(r.row(&lie), Ok(Taken { rebuilt: 0, spoilt: 1 }));
+            }
+        }
+        assert_eq!((r.present(), r.in_hand(), r.payload(at(lost))), (3, 0, None));
+        assert_eq!(r.row(&row), taken(1));
+        assert_eq!((r.payload(at(lost)), r.packet(at(lost))), (Some(&sent[lost][12..]), Ok(sent[lost].clone())));
+        let longer: Vec<u8> = sent[lost].iter().copied().chain([0; P]).collect();
+        assert_eq!(r.media(&longer), Err(if units[lost] < 3 { Refusal::Differs } else { Refusal::BadLength }));
+        assert_eq!(r.media(&sent[lost]), Err(Refusal::Repeat));
+    }
 }
 
 /// The limits are those that opening keeps to.
@@ -221,4 +282,6 @@ fn words() {
         assert_eq!(refusal.number(), i as u32 + 1);
         assert!(!refusal.to_string().is_empty());
     }
+    assert_eq!(BadLength.to_string(), "payload not whole transport packets up to the window's size");
+    assert_eq!(BadRecovery.to_string(), "payload type recovery not the profile's");
 }

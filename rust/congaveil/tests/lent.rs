@@ -1,20 +1,27 @@
 //! A lent store, with the crate's features as they are chosen: also without std.
-use congaveil::{Desk, How, Lent, Outer, Receiver, Record, Refusal, SetUp, PARITY_HEADER};
+use congaveil::{Desk, How, Lent, Outer, Receiver, Record, Refusal, SetUp, Taken, PARITY_HEADER};
 
 const SET_UP: SetUp = SetUp { base: 65_534, l: 4, d: 4, payload: 188, positions: 16, records: 8, ssrc: 7 };
 
 #[test]
 fn a_row_across_the_wrap() {
-    let (mut media, mut timestamps, mut marks) = ([0; 16 * 188], [0; 16], [0; 16]);
+    let (mut media, mut timestamps, mut lengths, mut marks) = ([0; 16 * 188], [0; 16], [0; 16], [0; 16]);
     let (mut parity, mut records) = ([0; 8 * 188], [Record::default(); 8]);
-    let lent = Lent { media: &mut media, timestamps: &mut timestamps, marks: &mut marks, parity: &mut parity, records: &mut records };
+    let lent = Lent {
+        media: &mut media,
+        timestamps: &mut timestamps,
+        lengths: &mut lengths,
+        marks: &mut marks,
+        parity: &mut parity,
+        records: &mut records,
+    };
     let mut sender = Receiver::open_in(SET_UP, lent).unwrap();
     let mut packets = [[0; 200]; 4];
     for (i, packet) in (0u8..).zip(&mut packets) {
         packet[..8].copy_from_slice(&[0x80, 33, 0xff, 0xfe, 0, 0, 0, i]);
         packet[2..4].copy_from_slice(&65_534u16.wrapping_add(i.into()).to_be_bytes());
         packet[12..].fill(i + 1);
-        assert_eq!(sender.media(packet), Ok(0));
+        assert_eq!(sender.media(packet), Ok(Taken::default()));
     }
     let mut row = [0; PARITY_HEADER + 188];
     assert_eq!(sender.write_row(65_534, Outer::default(), &mut row), Ok(row.len()));
@@ -24,10 +31,10 @@ fn a_row_across_the_wrap() {
     let mut desk = Desk::new();
     desk.begin(&receiver);
     for packet in [&packets[0], &packets[1], &packets[3]] {
-        assert_eq!(desk.media(&mut receiver, packet), Ok(0));
+        assert_eq!(desk.media(&mut receiver, packet), Ok(Taken::default()));
     }
     assert_eq!(receiver.read(0, &mut row), Err(Refusal::Missing));
-    assert_eq!(desk.row(&mut receiver, &row), Ok(1));
+    assert_eq!(desk.row(&mut receiver, &row), Ok(Taken { rebuilt: 1, spoilt: 0 }));
     assert_eq!(desk.rebuilt(&receiver).map(|packet| (packet.number, packet.timestamp, packet.payload[0])).next(), Some((0, 2, 3)));
     assert_eq!((desk.how(&receiver, 0), receiver.payload(0)), (How::Rebuilt, Some(&[3; 188][..])));
     assert_eq!(desk.counters().recovered(), 1);
@@ -36,11 +43,19 @@ fn a_row_across_the_wrap() {
 /// Calls that only read run side by side on one receiver.
 #[test]
 fn readers_side_by_side() {
-    let (mut media, mut timestamps, mut marks) = ([5; 16 * 188], [0; 16], [0; 16]);
+    let (mut media, mut timestamps, mut lengths, mut marks) = ([5; 16 * 188], [0; 16], [0; 16], [0; 16]);
     let (mut parity, mut records) = ([0; 8 * 188], [Record::default(); 8]);
-    let lent = Lent { media: &mut media, timestamps: &mut timestamps, marks: &mut marks, parity: &mut parity, records: &mut records };
+    let lent = Lent {
+        media: &mut media,
+        timestamps: &mut timestamps,
+        lengths: &mut lengths,
+        marks: &mut marks,
+        parity: &mut parity,
+        records: &mut records,
+    };
     let (window, lent) = Receiver::open_in(SET_UP, lent).unwrap().into_parts();
     lent.marks.fill(1);
+    lent.lengths.fill(188);
     let receiver = Receiver::from_parts(congaveil::Window { present: 16, ..window }, lent);
     let read = || {
         let mut out = [0; PARITY_HEADER + 188];

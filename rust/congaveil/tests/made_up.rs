@@ -10,6 +10,7 @@ const SET_UP: SetUp = SetUp { base: 65_530, l: 4, d: 4, payload: P, positions: 1
 struct Parts {
     media: Vec<u8>,
     timestamps: Vec<u32>,
+    lengths: Vec<u16>,
     marks: Vec<u8>,
     parity: Vec<u8>,
     records: Vec<Record>,
@@ -20,6 +21,7 @@ impl Parts {
         Parts {
             media: vec![3; 16 * P],
             timestamps: vec![3; 16],
+            lengths: vec![P as u16; 16],
             marks: vec![mark; 16],
             parity: vec![3; 8 * P],
             records: vec![Record::default(); 8],
@@ -29,6 +31,7 @@ impl Parts {
         Lent {
             media: &mut self.media,
             timestamps: &mut self.timestamps,
+            lengths: &mut self.lengths,
             marks: &mut self.marks,
             parity: &mut self.parity,
             records: &mut self.records,
@@ -45,10 +48,11 @@ fn every_call(window: Window, parts: &mut Parts) -> Option<Refusal> {
     answers.push(receiver.read(3, &mut out));
     answers.push(receiver.write_column(3, Outer::default(), &mut out));
     answers.push(receiver.write_row(3, Outer::default(), &mut out));
-    answers.push(receiver.media(&datagram));
-    answers.push(receiver.column(&datagram));
-    answers.push(receiver.row(&datagram));
+    answers.push(receiver.media(&datagram).map(|taken| taken.rebuilt));
+    answers.push(receiver.column(&datagram).map(|taken| taken.rebuilt));
+    answers.push(receiver.row(&datagram).map(|taken| taken.rebuilt));
     let _ = (receiver.has(3), receiver.missing().count(), receiver.present(), receiver.in_hand());
+    let _ = (receiver.payload(3), receiver.packets().count());
     let first = answers[0].err();
     if answers.iter().all(|answer| answer.err() == first) {
         first
@@ -110,17 +114,34 @@ fn every_edge() {
 #[test]
 fn short_stores() {
     let good = Receiver::open(SET_UP).unwrap().into_parts().0;
-    for part in 0..5 {
+    for part in 0..6 {
         let mut parts = Parts::new(0);
         match part {
             0 => parts.media.clear(),
             1 => parts.timestamps.clear(),
             2 => parts.marks.clear(),
             3 => parts.parity.clear(),
+            4 => parts.lengths.clear(),
             _ => parts.records.clear(),
         }
         let before = parts.clone();
         assert_eq!(every_call(good, &mut parts), Some(Refusal::ShortBuffer));
         assert_eq!(parts, before);
+    }
+}
+
+/// Kept lengths that somebody changed: 5 where it can be seen, and what is read where it lies never goes past P.
+#[test]
+fn changed_lengths() {
+    let good = Window { present: 16, ..Receiver::open(SET_UP).unwrap().into_parts().0 };
+    for length in [0, 1, 187, 189, 376, u16::MAX] {
+        let mut parts = Parts::new(1);
+        parts.lengths[3] = length;
+        let before = parts.clone();
+        assert_eq!(every_call(good, &mut parts), Some(Refusal::Disorder));
+        assert_eq!(parts, before);
+        let receiver = Receiver::from_parts(good, parts.lend());
+        assert_eq!(receiver.payload(65_533).map(<[u8]>::len), Some(usize::from(length).min(P)));
+        assert_eq!(receiver.packets().count(), 16);
     }
 }

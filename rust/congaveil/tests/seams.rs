@@ -3,7 +3,7 @@
 //!
 //! A stream of 10 × 10 matrices, 2 % of all datagrams lost by a seed; row parity goes out with its row, the columns of a matrix while
 //! the next one goes by. What an endless window would rebuild is worked out by plain sets.
-use congaveil::{Desk, Receiver, Refusal, SetUp};
+use congaveil::{Desk, Receiver, Refusal, SetUp, Taken};
 use std::collections::BTreeSet;
 
 const L: usize = 10;
@@ -135,7 +135,7 @@ fn windows(line: &[Sent], join: usize, step: usize, hand_on: bool) -> (BTreeSet<
                     Sent::Column(_) => desk.column(receiver, &datagram),
                     Sent::Row(_) => desk.row(receiver, &datagram),
                 };
-                assert!(matches!(answer, Ok(_) | Err(Refusal::Outside | Refusal::Repeat)), "{answer:?}");
+                assert!(matches!(answer, Ok(Taken { spoilt: 0, .. }) | Err(Refusal::Outside | Refusal::Repeat)), "{answer:?}");
                 for packet in desk.rebuilt(receiver) {
                     let back = *start + receiver.position(packet.number);
                     assert!(packet.payload.iter().all(|byte| *byte == payload_of(back)));
@@ -190,7 +190,7 @@ fn cut_columns(overlap: usize) -> Vec<usize> {
                 for place in group(&Sent::Column(*column)).into_iter().skip(1) {
                     let _ = receiver.media(&datagram(&Sent::Media(place)));
                 }
-                receiver.column(&datagram(&Sent::Column(*column))) != Ok(1)
+                receiver.column(&datagram(&Sent::Column(*column))) != Ok(Taken { rebuilt: 1, spoilt: 0 })
             })
         })
         .collect()

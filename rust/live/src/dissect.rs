@@ -1,7 +1,7 @@
 //! Writes the parity of media with the library into a pcap file, and beside it the fields that a dissector has to find there,
 //! worked out from the media without the library.
 use crate::traffic::{number, timestamp, Entry, Kind, Profile};
-use crate::{send, Outcome, PAYLOAD};
+use crate::{send, Outcome};
 use std::fmt::Write;
 use std::fs;
 
@@ -35,7 +35,9 @@ fn pcap(entries: &[&Entry], port: u16) -> Vec<u8> {
 /// The fields of the parity packet over some media, as tshark prints them: port, RTP payload type, number, SNBase, length recovery,
 /// E, PT recovery, mask, timestamp recovery, X, D, type, index, Offset, NA, SNBase ext and payload recovery.
 fn fields(group: &[&Vec<u8>], kind: Kind, sequence: u16, offset: usize, port: u16) -> String {
-    let (mut length, mut kinds, mut stamps, mut payload) = (0, 0, 0, [0u8; PAYLOAD]);
+    let (mut length, mut kinds, mut stamps) = (0, 0, 0);
+    let longest = group.iter().map(|packet| packet.len() - 12).max().unwrap_or(0);
+    let mut payload = vec![0u8; longest];
     for packet in group {
         length ^= packet.len() - 12;
         kinds ^= packet[1] & 0x7f;

@@ -3,6 +3,8 @@
 //!     live receive CAPTURE L D SEED PORT
 //!     live send CAPTURE L D SEED PORT BACK
 //!     live dissect CAPTURE L D PORT PCAP FIELDS
+//!     live mix CAPTURE SEED MIXED
+//!     live play CAPTURE PORT
 //!
 //! Media, columns and rows go to PORT, PORT + 2 and PORT + 4 of 127.0.0.1. CAPTURE is in the form that captures/README.md gives.
 mod dissect;
@@ -13,8 +15,11 @@ mod traffic;
 use std::{env, error::Error, process::ExitCode};
 use traffic::Profile;
 
-/// Payload bytes of every media packet: seven transport packets.
-const PAYLOAD: usize = 1316;
+/// Payload bytes of a media packet at most: seven transport packets.
+const PAYLOAD: usize = 7 * TRANSPORT;
+
+/// The bytes of a transport packet.
+const TRANSPORT: usize = 188;
 
 type Outcome = Result<(), Box<dyn Error>>;
 
@@ -24,7 +29,9 @@ fn run(args: &[&str]) -> Outcome {
         ["receive", capture, l, d, seed, port] => receive::run(capture, profile(l, d)?, seed.parse()?, port.parse()?),
         ["send", capture, l, d, seed, port, back] => send::run(capture, profile(l, d)?, seed.parse()?, port.parse()?, back.parse()?),
         ["dissect", capture, l, d, port, pcap, fields] => dissect::run(capture, profile(l, d)?, port.parse()?, pcap, fields),
-        _ => Err("usage: live receive|send|dissect ..., as the head of rust/live/src/main.rs says".into()),
+        ["mix", capture, seed, mixed] => traffic::mix(capture, seed.parse()?, mixed),
+        ["play", capture, port] => send::play(capture, port.parse()?),
+        _ => Err("usage: live receive|send|dissect|mix|play ..., as the head of rust/live/src/main.rs says".into()),
     }
 }
 

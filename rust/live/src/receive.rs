@@ -1,6 +1,6 @@
 //! Receives the three ports of a sender, drops some of the media, offers the rest to the library and compares what it rebuilt
 //! with what was sent.
-use crate::traffic::{beyond_reach, dropped, group, number, write_capture, Entry, Kind, Profile};
+use crate::traffic::{beyond_reach, dropped, group, number, snbase, write_capture, Entry, Kind, Profile};
 use crate::{Outcome, PAYLOAD};
 use congaveil::{Receiver, Refusal, SetUp};
 use std::collections::{BTreeMap, BTreeSet, VecDeque};
@@ -22,6 +22,8 @@ struct Windows {
     opened: usize,
     /// Packets rebuilt, by the answers.
     rebuilt: usize,
+    /// Parity packets that were spoilt, by the answers.
+    spoilt: usize,
     /// Media that came after they had been rebuilt.
     late: usize,
     refused: BTreeMap<u32, usize>,
@@ -39,6 +41,7 @@ impl Windows {
             open: VecDeque::new(),
             opened: 0,
             rebuilt: 0,
+            spoilt: 0,
             late: 0,
             refused: BTreeMap::new(),
             read: BTreeMap::new(),
@@ -69,9 +72,8 @@ impl Windows {
 
     /// Offers a datagram to the open windows, the oldest first, until one does not call it outside.
     fn offer(&mut self, entry: &Entry) -> Result<(), Refusal> {
-        if entry.kind == Kind::Media {
-            self.reach(number(&entry.datagram))?;
-        }
+        // GStreamer sends the parity of a row before its last packet, and the others may be dropped: it may be the first to come.
+        self.reach(if entry.kind == Kind::Media { number(&entry.datagram) } else { snbase(&entry.datagram) })?;
         let mut answer = Err(Refusal::Outside);
         for (_, receiver) in &mut self.open {
             if answer == Err(Refusal::Outside) {
@@ -83,7 +85,10 @@ impl Windows {
             }
         }
         match answer {
-            Ok(count) => self.rebuilt += count,
+            Ok(taken) => {
+                self.rebuilt += taken.rebuilt;
+                self.spoilt += taken.spoilt;
+            }
             Err(Refusal::Repeat) if entry.kind == Kind::Media => self.late += 1,
             Err(refusal) => *self.refused.entry(refusal.number()).or_default() += 1,
         }
@@ -92,7 +97,10 @@ impl Windows {
 
     /// Reads all packets out of the oldest window and lets it go.
     fn close(&mut self) -> Result<(), Refusal> {
-        let Some((base, receiver)) = self.open.pop_front() else { return Ok(()) };
+        let (base, receiver) = match self.open.pop_front() {
+            Some(oldest) => oldest,
+            None => return Ok(()),
+        };
         for i in 0..self.positions() {
             let number = base.wrapping_add(i as u16);
             if receiver.has(number) {
@@ -129,12 +137,13 @@ pub fn run(capture: &str, profile: Profile, seed: u64, port: u16) -> Outcome {
     let mut lost = BTreeSet::new();
     let mut last = Instant::now();
     loop {
-        let Some(entry) = next(&sockets)? else {
-            if last.elapsed() > PATIENCE[!all.is_empty() as usize] {
-                break;
+        let entry = match next(&sockets)? {
+            Some(entry) => entry,
+            None if last.elapsed() > PATIENCE[!all.is_empty() as usize] => break,
+            None => {
+                thread::sleep(Duration::from_millis(1));
+                continue;
             }
-            thread::sleep(Duration::from_millis(1));
-            continue;
         };
         last = Instant::now();
         if entry.datagram.len() < 28 || (windows.is_none() && entry.kind != Kind::Media) {
@@ -169,7 +178,8 @@ fn report(windows: &Windows, all: &[Entry], lost: &BTreeSet<u16>) -> Outcome {
     let last = first.wrapping_add(media.len() as u16).wrapping_sub(1);
 
     println!("  sent {} media, numbers {first} to {last}, and {} parity; {} windows", media.len(), parity.len(), windows.opened);
-    println!("  dropped {}, rebuilt {}, still missing {}", lost.len(), rebuilt.len(), missing.len());
+    let short = rebuilt.iter().filter(|p| sent[p].len() < 12 + PAYLOAD).count();
+    println!("  dropped {}, rebuilt {}, {short} of them short, still missing {}", lost.len(), rebuilt.len(), missing.len());
     println!("  rebuilt and equal to the one sent, byte for byte: {equal}");
     println!("  beyond the reach of the parity that came: {}", reach.len());
     if windows.late > 0 {
@@ -185,6 +195,7 @@ fn report(windows: &Windows, all: &[Entry], lost: &BTreeSet<u16>) -> Outcome {
         (windows.read.len() + missing.len() == sent.len(), "a packet that was offered is not present"),
         (missing == reach, "not exactly the packets beyond the parity's reach are missing"),
         (windows.rebuilt == rebuilt.len() + windows.late, "the answers do not add up to the packets rebuilt"),
+        (windows.spoilt == 0, "parity was spoilt, and the traffic is unaltered"),
     ];
     if !windows.refused.is_empty() {
         return Err(format!("refusals, by number: {:?}", windows.refused).into());

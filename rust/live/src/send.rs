@@ -31,7 +31,8 @@ pub fn with_parity(media: &[Vec<u8>], profile: Profile) -> Result<Vec<Entry>, Re
             if l >= 4 && i % l == l - 1 {
                 let outer = Outer { sequence: rows, timestamp: timestamp(packet), ssrc: 0 };
                 let mut datagram = vec![0; PARITY_HEADER + PAYLOAD];
-                window.write_row(number(&matrix[i + 1 - l]), outer, &mut datagram)?;
+                let length = window.write_row(number(&matrix[i + 1 - l]), outer, &mut datagram)?;
+                datagram.truncate(length);
                 entries.push(Entry { kind: Kind::Row, datagram });
                 rows = rows.wrapping_add(1);
             }
@@ -42,13 +43,24 @@ pub fn with_parity(media: &[Vec<u8>], profile: Profile) -> Result<Vec<Entry>, Re
         for packet in &matrix[..l] {
             let outer = Outer { sequence: columns, timestamp: timestamp(&matrix[profile.matrix() - 1]), ssrc: 0 };
             let mut datagram = vec![0; PARITY_HEADER + PAYLOAD];
-            window.write_column(number(packet), outer, &mut datagram)?;
+            let length = window.write_column(number(packet), outer, &mut datagram)?;
+            datagram.truncate(length);
             waiting.push_back(Entry { kind: Kind::Column, datagram });
             columns = columns.wrapping_add(1);
         }
     }
     entries.extend(waiting);
     Ok(entries)
+}
+
+/// Sends the media of a capture to a port, one packet a millisecond.
+pub fn play(capture: &str, port: u16) -> Outcome {
+    let out = UdpSocket::bind((Ipv4Addr::LOCALHOST, 0))?;
+    for datagram in media_of_capture(capture)? {
+        out.send_to(&datagram, (Ipv4Addr::LOCALHOST, port))?;
+        thread::sleep(Duration::from_millis(1));
+    }
+    Ok(())
 }
 
 /// Everything that comes in until two seconds pass without a datagram.
@@ -101,7 +113,8 @@ pub fn run(capture: &str, profile: Profile, seed: u64, port: u16, back: u16) -> 
 
     let last = first.wrapping_add(media.len() as u16).wrapping_sub(1);
     println!("  sent {} media, numbers {first} to {last}, less {} dropped, and {} parity", media.len(), lost.len(), groups.len());
-    println!("  came back: {passed} passed on, {recovered} recovered; still missing {}", missing.len());
+    let short = lost.iter().filter(|p| back.get(p).map_or(false, |datagram| datagram.len() < 12 + PAYLOAD)).count();
+    println!("  came back: {passed} passed on, {recovered} recovered, {short} of them short; still missing {}", missing.len());
     println!("  beyond the reach of the parity: {}", reach.len());
     println!("  came back and not equal to the one sent: {strange}; came back twice: {twice}");
     let checks = [

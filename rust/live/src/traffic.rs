@@ -1,4 +1,5 @@
 //! What the three modes share: captures, the ports, the losses, and what the losses leave, worked out without the library.
+use crate::{Outcome, PAYLOAD, TRANSPORT};
 use std::{collections::BTreeSet, error::Error, fs};
 
 /// Columns and rows of the parity matrix.
@@ -38,7 +39,7 @@ pub struct Entry {
 }
 
 /// A run of entries: a byte of kind (1 media, 2 column, 3 row), two bytes of length, big-endian, and the datagram.
-pub fn write_capture(file: &str, entries: &[Entry]) -> Result<(), Box<dyn Error>> {
+pub fn write_capture(file: &str, entries: &[Entry]) -> Outcome {
     let mut bytes = Vec::new();
     for Entry { kind, datagram } in entries {
         bytes.push(*kind as u8 + 1);
@@ -48,17 +49,35 @@ pub fn write_capture(file: &str, entries: &[Entry]) -> Result<(), Box<dyn Error>
     Ok(fs::write(file, bytes)?)
 }
 
+/// The media of a capture with payloads of several lengths: two in three are cut to one to seven transport packets, by a seed. Each
+/// transport packet that is left is the one that stood there. The SSRC is 0: GStreamer's encoder takes no other.
+pub fn mix(capture: &str, seed: u64, mixed: &str) -> Outcome {
+    let mut entries = Vec::new();
+    for mut datagram in media_of_capture(capture)? {
+        datagram[8..12].fill(0);
+        let drawn = random(seed, u64::from(number(&datagram)) + 200_000) as usize;
+        if drawn % 3 > 0 {
+            datagram.truncate(12 + TRANSPORT * (1 + drawn / 3 % (PAYLOAD / TRANSPORT)));
+        }
+        entries.push(Entry { kind: Kind::Media, datagram });
+    }
+    write_capture(mixed, &entries)
+}
+
 /// The media of a capture, in order; fails unless each number follows the one before.
 pub fn media_of_capture(file: &str) -> Result<Vec<Vec<u8>>, Box<dyn Error>> {
     let bytes = fs::read(file)?;
     let (mut rest, mut media): (&[u8], Vec<Vec<u8>>) = (&bytes, Vec::new());
     while !rest.is_empty() {
-        let (&[kind, high, low], after) = rest.split_first_chunk().ok_or("the capture is cut short")?;
-        let (datagram, after) = after.split_at_checked(u16::from_be_bytes([high, low]) as usize).ok_or("the capture is cut short")?;
-        rest = after;
-        if kind == 1 {
-            media.push(datagram.to_vec());
+        let length = match *rest {
+            [_, high, low, ..] => 3 + u16::from_be_bytes([high, low]) as usize,
+            _ => return Err("the capture is cut short".into()),
+        };
+        let entry = rest.get(..length).ok_or("the capture is cut short")?;
+        if entry[0] == 1 {
+            media.push(entry[3..].to_vec());
         }
+        rest = &rest[length..];
     }
     match media.windows(2).find(|pair| number(&pair[1]) != number(&pair[0]).wrapping_add(1)) {
         Some(pair) => Err(format!("the capture has {} after {}", number(&pair[1]), number(&pair[0])).into()),
@@ -76,10 +95,15 @@ pub fn timestamp(datagram: &[u8]) -> u32 {
     u32::from_be_bytes([datagram[4], datagram[5], datagram[6], datagram[7]])
 }
 
+/// The first number of a parity packet's group.
+pub fn snbase(parity: &[u8]) -> u16 {
+    u16::from_be_bytes([parity[12], parity[13]])
+}
+
 /// The positions of a parity packet's group, counted from `first`, as its header gives them: SNBase, Offset and NA.
 pub fn group(parity: &[u8], first: u16) -> Vec<u16> {
-    let (snbase, offset, na) = (u16::from_be_bytes([parity[12], parity[13]]), parity[25] as u16, parity[26] as u16);
-    (0..na).map(|j| snbase.wrapping_add(j * offset).wrapping_sub(first)).collect()
+    let (offset, na) = (parity[25] as u16, parity[26] as u16);
+    (0..na).map(|j| snbase(parity).wrapping_add(j * offset).wrapping_sub(first)).collect()
 }
 
 /// Whether the packet of a position is dropped: four in a hundred singly, and a burst of L in every fifth matrix.

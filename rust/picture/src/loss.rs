@@ -1,5 +1,5 @@
 //! Windows of traffic through the library, with losses.
-use congaveil::{Outer, Receiver, SetUp, MEDIA_HEADER, PARITY_HEADER};
+use congaveil::{Outer, Receiver, SetUp, Taken, MEDIA_HEADER, PARITY_HEADER};
 
 const PAYLOAD: usize = 188;
 const BASE: u16 = 65_400;
@@ -53,7 +53,7 @@ fn sent(profile: Profile) -> Sent {
         })
         .collect();
     let mut sender = Receiver::open(set_up).unwrap();
-    media.iter().for_each(|g| assert_eq!(sender.media(g), Ok(0)));
+    media.iter().for_each(|g| assert_eq!(sender.media(g), Ok(Taken::default())));
     let parity = |row: bool, start: usize| {
         let mut out = vec![0; PARITY_HEADER + PAYLOAD];
         let written = if row {

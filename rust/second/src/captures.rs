@@ -1,5 +1,5 @@
 //! Traffic of real senders with losses of all kinds: nothing present may differ from what was sent, nothing may be missing
-//! that the received parity allows, and the parity that the library writes is the sender's.
+//! that the received parity allows, nothing is spoilt, and the parity that the library writes is the sender's.
 
 use crate::face::Receiver;
 use crate::model::{Stamp, Window};
@@ -24,6 +24,8 @@ pub struct Tally {
     pub windows: u64,
     pub lost: u64,
     pub rebuilt: u64,
+    /// Rebuilt packets that are shorter than P.
+    pub short: u64,
     pub compared: u64,
     pub full: u64,
 }
@@ -35,6 +37,7 @@ pub fn load() -> Result<Vec<Capture>, String> {
         parse("ff_5x5_k4", include_bytes!("../../../captures/ff_5x5_k4.cap"), 5, 5, 752, 65_500)?,
         parse("gst_4x4_k4", include_bytes!("../../../captures/gst_4x4_k4.cap"), 4, 4, 752, 65_500)?,
         parse("gst_20x5_k1", include_bytes!("../../../captures/gst_20x5_k1.cap"), 20, 5, 188, 65_300)?,
+        parse("gst_4x4_mixed", include_bytes!("../../../captures/gst_4x4_mixed.cap"), 4, 4, 1316, 65_500)?,
     ])
 }
 
@@ -106,8 +109,17 @@ impl Capture {
         let rate_of_parity = rng.pick(&[0, 0, rate_of_media, 300]);
         let bursts = rng.chance(500);
         let single = !bursts || rng.chance(300);
-        let mut lost: Vec<bool> =
-            self.entries.iter().map(|(port, _)| single && rng.chance(if *port == 1 { rate_of_media } else { rate_of_parity })).collect();
+        // Short packets are few, and lost more often.
+        let short = |port: u8, datagram: &[u8]| port == 1 && datagram.len() < 12 + self.p;
+        let rate_of_short = rng.pick(&[0, 400]);
+        let mut lost: Vec<bool> = self
+            .entries
+            .iter()
+            .map(|(port, datagram)| {
+                let rate = if *port == 1 { rate_of_media } else { rate_of_parity };
+                single && rng.chance(rate) || short(*port, datagram) && rng.chance(rate_of_short)
+            })
+            .collect();
         if bursts {
             let longest = rng.pick(&[5, 15, 40]);
             let mut at = rng.index(200);
@@ -165,8 +177,8 @@ impl Capture {
             let answer = receiver.offer(port, datagram);
             let fits = port == 1 || inside(&groups[index].members);
             let good = if fits { matches!(answer.number, 0 | 14) || (answer.number == 16 && port != 1) } else { answer.number == 13 };
-            if !good {
-                return Err(format!("port {port}, packet {index} was answered {}", answer.number));
+            if !good || answer.spoilt != 0 {
+                return Err(format!("port {port}, packet {index} was answered {} with {} spoilt", answer.number, answer.spoilt));
             }
             if port == 1 {
                 present[index - start] = true;
@@ -176,7 +188,8 @@ impl Capture {
                 groups[index].received = true;
             }
         }
-        let received = present.iter().filter(|&&is| is).count();
+        let arrived = present.clone();
+        let received = arrived.iter().filter(|&&is| is).count();
 
         // Peeling: as long as some received parity lacks one packet, that one can be had. A parity packet that met a full
         // table counts as not received.
@@ -217,6 +230,8 @@ impl Capture {
         tally.windows += 1;
         tally.lost += (n - received) as u64;
         tally.rebuilt += (in_the_end - received) as u64;
+        let rebuilt = (0..n).filter(|&i| present[i] && !arrived[i]);
+        tally.short += rebuilt.filter(|&i| self.media[start + i].len() < 12 + self.p).count() as u64;
         Ok(())
     }
 
@@ -246,9 +261,9 @@ mod tests {
     use super::*;
 
     #[test]
-    fn the_four_files_are_of_the_form_and_pass() {
+    fn the_files_are_of_the_form_and_pass() {
         let captures = load().unwrap();
-        assert_eq!(captures.len(), 4);
+        assert_eq!(captures.len(), 5);
         let mut tally = Tally::default();
         for capture in &captures {
             assert!(capture.entries.iter().any(|(port, _)| *port == 2) && capture.entries.iter().any(|(port, _)| *port == 3));
@@ -256,7 +271,7 @@ mod tests {
                 capture.run(seed, &mut tally).unwrap();
             }
         }
-        assert_eq!(tally.patterns, 12);
+        assert_eq!(tally.patterns, 15);
         assert!(tally.rebuilt > 0 && tally.compared > 0);
     }
 

@@ -22,22 +22,29 @@ struct CRecord {
     in_use: u8,
     snbase: u16,
     timestamp_recovery: u32,
+    length_recovery: u16,
+    payload_length: u16,
 }
 
 #[repr(C)]
 struct CAnswer {
     number: u32,
     count: usize,
+    spoilt: usize,
     window: CWindow,
 }
 
 /// A record as the bytes it is lent in.
 #[repr(C, align(4))]
 #[derive(Clone, Copy, Debug, PartialEq, Eq)]
-pub struct RawRecord(pub [u8; 8]);
+pub struct RawRecord(pub [u8; RECORD]);
 
-// C's order and no gap: the fields stand at 0, 1, 2 and 4.
-const _: () = assert!(std::mem::size_of::<CRecord>() == 8 && std::mem::align_of::<CRecord>() == 4);
+/// The bytes of a record.
+pub const RECORD: usize = 12;
+
+// C's order and no gap: the fields stand at 0, 1, 2, 4, 8 and 10.
+const _: () = assert!(std::mem::size_of::<CRecord>() == RECORD && std::mem::align_of::<CRecord>() == 4);
+const _: () = assert!(std::mem::size_of::<RawRecord>() == RECORD && std::mem::size_of::<CAnswer>() == 88);
 
 impl RawRecord {
     pub fn set(&mut self, record: Record) {
@@ -45,6 +52,8 @@ impl RawRecord {
         self.0[1] = record.in_use;
         self.0[2..4].copy_from_slice(&record.snbase.to_ne_bytes());
         self.0[4..8].copy_from_slice(&record.timestamp_recovery.to_ne_bytes());
+        self.0[8..10].copy_from_slice(&record.length_recovery.to_ne_bytes());
+        self.0[10..12].copy_from_slice(&record.payload_length.to_ne_bytes());
     }
 
     pub fn get(&self) -> Record {
@@ -54,18 +63,20 @@ impl RawRecord {
             in_use: b[1],
             snbase: u16::from_ne_bytes([b[2], b[3]]),
             timestamp_recovery: u32::from_ne_bytes([b[4], b[5], b[6], b[7]]),
+            length_recovery: u16::from_ne_bytes([b[8], b[9]]),
+            payload_length: u16::from_ne_bytes([b[10], b[11]]),
         }
     }
 }
 
-/// Declares a call with the five parts of the store between what comes before and what comes after.
+/// Declares a call with the six parts of the store between what comes before and what comes after.
 macro_rules! declare {
-    ($name:ident, [$($before:ident: $b:ty),*], $bytes:ty, $words:ty, $records:ty, [$($after:ident: $a:ty),*]) => {
+    ($name:ident, [$($before:ident: $b:ty),*], $bytes:ty, $words:ty, $halves:ty, $records:ty, [$($after:ident: $a:ty),*]) => {
         extern "C" {
             fn $name(
                 $($before: $b,)*
                 media: $bytes, media_len: usize, timestamps: $words, timestamps_len: usize,
-                marks: $bytes, marks_len: usize, parity: $bytes, parity_len: usize,
+                lengths: $halves, lengths_len: usize, marks: $bytes, marks_len: usize, parity: $bytes, parity_len: usize,
                 records: $records, records_len: usize
                 $(, $after: $a)*
             ) -> CAnswer;
@@ -73,16 +84,17 @@ macro_rules! declare {
     };
 }
 
-declare!(cgv_open, [base: u16, l: usize, d: usize, p: usize, n: usize, k: usize, ssrc: u32], *mut u8, *mut u32, *mut CRecord, []);
-declare!(cgv_media, [w: CWindow, datagram: *const u8, len: usize], *mut u8, *mut u32, *mut CRecord, []);
-declare!(cgv_column, [w: CWindow, datagram: *const u8, len: usize], *mut u8, *mut u32, *mut CRecord, []);
-declare!(cgv_row, [w: CWindow, datagram: *const u8, len: usize], *mut u8, *mut u32, *mut CRecord, []);
-declare!(cgv_read, [w: CWindow, number: u16], *const u8, *const u32, *const CRecord, [out: *mut u8, out_len: usize]);
+declare!(cgv_open, [base: u16, l: usize, d: usize, p: usize, n: usize, k: usize, ssrc: u32], *mut u8, *mut u32, *mut u16, *mut CRecord, []);
+declare!(cgv_media, [w: CWindow, datagram: *const u8, len: usize], *mut u8, *mut u32, *mut u16, *mut CRecord, []);
+declare!(cgv_column, [w: CWindow, datagram: *const u8, len: usize], *mut u8, *mut u32, *mut u16, *mut CRecord, []);
+declare!(cgv_row, [w: CWindow, datagram: *const u8, len: usize], *mut u8, *mut u32, *mut u16, *mut CRecord, []);
+declare!(cgv_read, [w: CWindow, number: u16], *const u8, *const u32, *const u16, *const CRecord, [out: *mut u8, out_len: usize]);
 declare!(
     cgv_write_column,
     [w: CWindow, snbase: u16, sequence: u16, timestamp: u32, ssrc: u32],
     *const u8,
     *const u32,
+    *const u16,
     *const CRecord,
     [out: *mut u8, out_len: usize]
 );
@@ -91,6 +103,7 @@ declare!(
     [w: CWindow, snbase: u16, sequence: u16, timestamp: u32, ssrc: u32],
     *const u8,
     *const u32,
+    *const u16,
     *const CRecord,
     [out: *mut u8, out_len: usize]
 );
@@ -99,6 +112,7 @@ declare!(
 pub struct Lent<'a> {
     pub media: &'a mut [u8],
     pub timestamps: &'a mut [u32],
+    pub lengths: &'a mut [u16],
     pub marks: &'a mut [u8],
     pub parity: &'a mut [u8],
     pub records: &'a mut [RawRecord],
@@ -123,6 +137,7 @@ fn from_c(answer: CAnswer) -> Answer {
     Answer {
         number: answer.number,
         count: answer.count as u64,
+        spoilt: answer.spoilt as u64,
         window: Window {
             base: w.base,
             ssrc: w.ssrc,
@@ -137,19 +152,19 @@ fn from_c(answer: CAnswer) -> Answer {
     }
 }
 
-/// Calls with the five parts. Pointers and lengths come from slices that are borrowed for the call and do not overlap.
+/// Calls with the six parts. Pointers and lengths come from slices that are borrowed for the call and do not overlap.
 macro_rules! with_store {
     ($name:ident, [$($before:expr),*], $s:expr, mut) => {
         from_c(unsafe {
             $name($($before,)* $s.media.as_mut_ptr(), $s.media.len(), $s.timestamps.as_mut_ptr(), $s.timestamps.len(),
-                $s.marks.as_mut_ptr(), $s.marks.len(), $s.parity.as_mut_ptr(), $s.parity.len(),
+                $s.lengths.as_mut_ptr(), $s.lengths.len(), $s.marks.as_mut_ptr(), $s.marks.len(), $s.parity.as_mut_ptr(), $s.parity.len(),
                 $s.records.as_mut_ptr().cast(), $s.records.len())
         })
     };
     ($name:ident, [$($before:expr),*], $s:expr, $out:expr) => {
         from_c(unsafe {
             $name($($before,)* $s.media.as_ptr(), $s.media.len(), $s.timestamps.as_ptr(), $s.timestamps.len(),
-                $s.marks.as_ptr(), $s.marks.len(), $s.parity.as_ptr(), $s.parity.len(),
+                $s.lengths.as_ptr(), $s.lengths.len(), $s.marks.as_ptr(), $s.marks.len(), $s.parity.as_ptr(), $s.parity.len(),
                 $s.records.as_ptr().cast(), $s.records.len(), $out.as_mut_ptr(), $out.len())
         })
     };
@@ -190,6 +205,7 @@ pub struct Receiver {
     pub window: Window,
     pub media: Vec<u8>,
     pub timestamps: Vec<u32>,
+    pub lengths: Vec<u16>,
     pub marks: Vec<u8>,
     pub parity: Vec<u8>,
     pub records: Vec<RawRecord>,
@@ -203,9 +219,10 @@ impl Receiver {
             window: asked,
             media: vec![0xA5; n * p],
             timestamps: vec![0xA5A5; n],
+            lengths: vec![0xA5A5; n],
             marks: vec![0xA5; n],
             parity: vec![0xA5; k * p],
-            records: vec![RawRecord([0xA5; 8]); k],
+            records: vec![RawRecord([0xA5; RECORD]); k],
         };
         let answer = open(asked, &mut receiver.lend());
         if answer.number != 0 {
@@ -219,6 +236,7 @@ impl Receiver {
         Lent {
             media: &mut self.media,
             timestamps: &mut self.timestamps,
+            lengths: &mut self.lengths,
             marks: &mut self.marks,
             parity: &mut self.parity,
             records: &mut self.records,
@@ -242,11 +260,7 @@ impl Receiver {
         let w = self.window;
         let mut out = vec![0x5A; 12 + w.p as usize];
         let answer = read(w, number, &self.lend(), &mut out);
-        if answer.number == 0 {
-            Ok(out)
-        } else {
-            Err(answer.number)
-        }
+        written(answer, out)
     }
 
     /// The parity packet of a group, on port 2 or 3, or the number of the refusal.
@@ -257,10 +271,20 @@ impl Receiver {
             2 => write_column(w, snbase, stamp, &self.lend(), &mut out),
             _ => write_row(w, snbase, stamp, &self.lend(), &mut out),
         };
-        if answer.number == 0 {
-            Ok(out)
-        } else {
-            Err(answer.number)
-        }
+        written(answer, out)
     }
+}
+
+/// As many bytes as the answer says. Past them the output is as it was, or more is given than any packet has.
+fn written(answer: Answer, mut out: Vec<u8>) -> Result<Vec<u8>, u32> {
+    if answer.number != 0 {
+        return Err(answer.number);
+    }
+    let count = answer.count as usize;
+    if count <= out.len() && out[count..].iter().all(|&byte| byte == 0x5A) {
+        out.truncate(count);
+    } else {
+        out.push(0);
+    }
+    Ok(out)
 }

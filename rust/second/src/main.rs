@@ -1,4 +1,5 @@
-//! A second program for document 01, run against the library: random traffic, brute force on small windows, real captures.
+//! A second program for document 01 and request 1 of document 02, run against the library: random traffic, brute force on small
+//! windows, real captures.
 //!
 //! `second` runs a fixed seeded set, `second --seed S` replays one seed, `second --seconds N [--seed S]` is the long run, which
 //! takes the seeds from S onward. A difference is printed with its seed, and the exit status is then 1.
@@ -16,11 +17,11 @@ use std::process::ExitCode;
 use std::time::{Duration, Instant};
 
 /// How many seeds of each part the run without arguments takes: 1 to this.
-const WINDOWS: u64 = 60_000;
+const WINDOWS: u64 = 80_000;
 const LISTS: u64 = 20_000;
 const PATTERNS: u64 = 250;
 
-/// Each number must be met so often in the run without arguments.
+/// Each number, and each kind of spoilt rebuild, must be met so often in the run without arguments.
 const LEAST: u64 = 100;
 
 struct Run {
@@ -67,6 +68,11 @@ impl Run {
             numbers.join(", "),
             t.rebuilt
         );
+        let x = &t.spoilt;
+        println!(
+            "  spoilt: {} parity packets; in {} offers of the packet itself, {} with parity in hand, {} of several, {} that also rebuilt",
+            x.all, x.offered, x.in_hand, x.several, x.passed
+        );
         let s = &self.stopping;
         println!(
             "small windows: {} lists of {} offers, {} packets lost, {} rebuilt, {} lists with a part left missing; 0 wrong",
@@ -74,12 +80,13 @@ impl Run {
         );
         let c = &self.captures;
         println!(
-            "captures: {} captures, {} patterns in {} windows, {} packets lost, {} rebuilt, {} parity packets compared, {}",
+            "captures: {} captures, {} patterns in {} windows, {} packets lost, {} rebuilt, {} of them short, {} parity packets compared, {}",
             c.captures,
             c.patterns,
             c.windows,
             c.lost,
             c.rebuilt,
+            c.short,
             c.compared,
             format_args!("{} offered to a full table; 0 wrong", c.full)
         );
@@ -96,8 +103,12 @@ impl Run {
             self.pattern(seed)?;
         }
         self.print();
+        let x = self.traffic.spoilt;
         match self.traffic.numbers.iter().position(|&times| times < LEAST) {
             Some(number) => Err(format!("number {number} was met fewer than {LEAST} times")),
+            None if [x.offered, x.in_hand, x.several, x.passed, self.captures.short].iter().any(|&times| times < LEAST) => {
+                Err(format!("a kind of spoilt rebuild, or a short packet of a capture, was met fewer than {LEAST} times"))
+            }
             None if self.traffic.profiles.len() != traffic::profiles().len() => Err("not every profile was met".to_string()),
             None => Ok(()),
         }

@@ -1,4 +1,4 @@
-//! The second program: document 01 read once more and written down in the plainest way.
+//! The second program: document 01 and request 1 of document 02 read once more and written down in the plainest way.
 //!
 //! Nothing here is clever. Every call looks at everything afresh, all arithmetic is in 64 bits, and a group is a list of
 //! numbers. Judging only reads the store; a call writes to it after the last refusal has been ruled out.
@@ -28,6 +28,8 @@ pub struct Record {
     pub stream: u8,
     pub snbase: u16,
     pub timestamp_recovery: u32,
+    pub length_recovery: u16,
+    pub payload_length: u16,
     pub in_use: u8,
 }
 
@@ -35,6 +37,7 @@ pub struct Record {
 pub struct Store<'a> {
     pub media: &'a mut [u8],
     pub timestamps: &'a mut [u32],
+    pub lengths: &'a mut [u16],
     pub marks: &'a mut [u8],
     pub parity: &'a mut [u8],
     pub records: &'a mut [Record],
@@ -45,6 +48,7 @@ pub struct Store<'a> {
 pub struct Answer {
     pub number: u32,
     pub count: u64,
+    pub spoilt: u64,
     pub window: Window,
 }
 
@@ -57,7 +61,7 @@ pub struct Stamp {
 }
 
 fn refuse(number: u32, window: Window) -> Answer {
-    Answer { number, count: 0, window }
+    Answer { number, count: 0, spoilt: 0, window }
 }
 
 /// A refusal if the condition holds. Chained with `?`, the first that applies is given.
@@ -111,14 +115,38 @@ fn missing(s: &Store, places: &[usize]) -> Vec<usize> {
     places.iter().copied().filter(|&i| s.marks[i] == 0).collect()
 }
 
-fn payload<'a>(part: &'a [u8], w: &Window, index: usize) -> &'a [u8] {
-    &part[index * w.p as usize..(index + 1) * w.p as usize]
+/// The transport packets that P is made of: no P is a multiple of both sizes.
+fn unit(w: &Window) -> u64 {
+    if w.p % 188 == 0 {
+        188
+    } else {
+        204
+    }
 }
 
-fn payload_mut<'a>(part: &'a mut [u8], w: &Window, index: usize) -> &'a mut [u8] {
+/// A payload is one or more whole units up to P.
+fn good_length(w: &Window, length: u64) -> bool {
+    length > 0 && length % unit(w) == 0 && length <= w.p
+}
+
+/// The payload at an index with its true length. What stands past that is not looked at.
+fn payload<'a>(part: &'a [u8], w: &Window, index: usize, length: u16) -> &'a [u8] {
+    &part[index * w.p as usize..][..usize::from(length)]
+}
+
+/// All P bytes at an index.
+fn place_mut<'a>(part: &'a mut [u8], w: &Window, index: usize) -> &'a mut [u8] {
     &mut part[index * w.p as usize..(index + 1) * w.p as usize]
 }
 
+/// Stores a payload with zeros up to P.
+fn keep(part: &mut [u8], w: &Window, index: usize, bytes: &[u8]) {
+    let place = place_mut(part, w, index);
+    place.fill(0);
+    place[..bytes.len()].copy_from_slice(bytes);
+}
+
+/// A shorter payload counts as zero-padded.
 fn xor_into(target: &mut [u8], other: &[u8]) {
     for (a, b) in target.iter_mut().zip(other) {
         *a ^= b;
@@ -136,6 +164,7 @@ fn check_numbers(w: &Window) -> Result<(), u32> {
 fn check_room(w: &Window, s: &Store) -> Result<(), u32> {
     no_if((s.media.len() as u64) < w.n * w.p, 4)?;
     no_if((s.timestamps.len() as u64) < w.n, 4)?;
+    no_if((s.lengths.len() as u64) < w.n, 4)?;
     no_if((s.marks.len() as u64) < w.n, 4)?;
     no_if((s.parity.len() as u64) < w.k * w.p, 4)?;
     no_if((s.records.len() as u64) < w.k, 4)
@@ -145,6 +174,7 @@ fn check_order(w: &Window, s: &Store) -> Result<(), u32> {
     let marks = &s.marks[..w.n as usize];
     let records = &s.records[..w.k as usize];
     no_if(marks.iter().any(|&mark| mark > 1), 5)?;
+    no_if(marks.iter().zip(s.lengths.iter()).any(|(&mark, &length)| mark == 1 && !good_length(w, u64::from(length))), 5)?;
     no_if(records.iter().any(|record| record.in_use > 1), 5)?;
     for (i, record) in records.iter().enumerate() {
         if record.in_use == 0 {
@@ -152,6 +182,7 @@ fn check_order(w: &Window, s: &Store) -> Result<(), u32> {
         }
         no_if(record.stream != COLUMN && record.stream != ROW, 5)?;
         no_if(record.stream == ROW && w.l < 4, 5)?;
+        no_if(!good_length(w, u64::from(record.payload_length)), 5)?;
         match places(w, record.stream, record.snbase) {
             None => return Err(5),
             Some(places) => no_if(missing(s, &places).len() < 2, 5)?,
@@ -184,10 +215,11 @@ pub fn open(asked: Window, s: &mut Store) -> Answer {
     let (n, k, p) = (asked.n as usize, asked.k as usize, asked.p as usize);
     s.media[..n * p].fill(0);
     s.timestamps[..n].fill(0);
+    s.lengths[..n].fill(0);
     s.marks[..n].fill(0);
     s.parity[..k * p].fill(0);
     s.records[..k].fill(Record::default());
-    Answer { number: 0, count: 0, window: Window { present: 0, in_use: 0, ..asked } }
+    Answer { number: 0, count: 0, spoilt: 0, window: Window { present: 0, in_use: 0, ..asked } }
 }
 
 // ---- the datagrams ----
@@ -208,7 +240,7 @@ fn check_rtp(w: &Window, datagram: &[u8], headers: u64, payload_type: u8) -> Res
     no_if(datagram[0] & 0x3F != 0, 7)?;
     no_if(datagram[1] & 0x80 != 0, 7)?;
     no_if(datagram[1] & 0x7F != payload_type, 8)?;
-    no_if(len != headers + w.p, 9)
+    no_if(!good_length(w, len - headers), 9)
 }
 
 fn judge_media(w: &Window, datagram: &[u8], s: &Store) -> Result<usize, u32> {
@@ -218,7 +250,7 @@ fn judge_media(w: &Window, datagram: &[u8], s: &Store) -> Result<usize, u32> {
     no_if(i >= w.n, 13)?;
     let i = i as usize;
     if s.marks[i] == 1 {
-        let same = s.timestamps[i] == four(datagram, 4) && payload(s.media, w, i) == &datagram[12..];
+        let same = s.timestamps[i] == four(datagram, 4) && payload(s.media, w, i, s.lengths[i]) == &datagram[12..];
         return Err(if same { 14 } else { 15 });
     }
     Ok(i)
@@ -236,7 +268,6 @@ fn judge_parity(w: &Window, stream: u8, datagram: &[u8], s: &Store) -> Result<Ve
     no_if(header[15] != 0, 10)?;
     let odd = na(w, stream) % 2 == 1;
     no_if(header[4] & 0x7F != if odd { 33 } else { 0 }, 11)?;
-    no_if(u64::from(two(header, 2)) != if odd { w.p } else { 0 }, 11)?;
     no_if((header[12] >> 6) & 1 != stream, 12)?;
     no_if(u64::from(header[13]) != offset(w, stream), 12)?;
     no_if(u64::from(header[14]) != na(w, stream), 12)?;
@@ -245,7 +276,9 @@ fn judge_parity(w: &Window, stream: u8, datagram: &[u8], s: &Store) -> Result<Ve
     let places = places(w, stream, snbase).ok_or(13u32)?;
     for (i, record) in s.records[..w.k as usize].iter().enumerate() {
         if record.in_use == 1 && record.stream == stream && record.snbase == snbase {
-            let same = record.timestamp_recovery == four(header, 8) && payload(s.parity, w, i) == &datagram[28..];
+            let same = record.timestamp_recovery == four(header, 8)
+                && record.length_recovery == two(header, 2)
+                && payload(s.parity, w, i, record.payload_length) == &datagram[28..];
             return Err(if same { 14 } else { 15 });
         }
     }
@@ -256,24 +289,45 @@ fn judge_parity(w: &Window, stream: u8, datagram: &[u8], s: &Store) -> Result<Ve
 
 // ---- rebuilding ----
 
-/// Rebuilds position `lost` of a group from its recovery fields and all the others.
-fn rebuild(w: &Window, s: &mut Store, places: &[usize], lost: usize, timestamp_recovery: u32, recovery: &[u8]) {
-    let mut timestamp = timestamp_recovery;
-    let mut bytes = recovery.to_vec();
+/// The recovery fields of a parity packet, the payload with its true length.
+struct Recovery {
+    timestamp: u32,
+    length: u16,
+    payload: Vec<u8>,
+}
+
+/// Rebuilds position `lost` of a group from its recovery fields and all the others. False where it is spoilt: what comes out
+/// cannot be a packet, and nothing is written.
+fn rebuild(w: &Window, s: &mut Store, places: &[usize], lost: usize, recovery: &Recovery) -> bool {
+    let (mut timestamp, mut length) = (recovery.timestamp, recovery.length);
+    let mut bytes = recovery.payload.clone();
+    bytes.resize(w.p as usize, 0);
     for &i in places {
         if i != lost {
             timestamp ^= s.timestamps[i];
-            xor_into(&mut bytes, payload(s.media, w, i));
+            length ^= s.lengths[i];
+            xor_into(&mut bytes, payload(s.media, w, i, s.lengths[i]));
         }
     }
+    let end = usize::from(length);
+    if end == 0 || u64::from(length) % unit(w) != 0 || end > recovery.payload.len() || bytes[end..].iter().any(|&byte| byte != 0) {
+        return false;
+    }
     s.timestamps[lost] = timestamp;
-    payload_mut(s.media, w, lost).copy_from_slice(&bytes);
+    s.lengths[lost] = length;
+    keep(s.media, w, lost, &bytes[..end]);
     s.marks[lost] = 1;
+    true
 }
 
-/// Releases what is spent, lets the first of those that are ready rebuild, and begins again.
-/// Answers how many packets were rebuilt.
-fn settle(w: &Window, s: &mut Store) -> u64 {
+fn release(w: &Window, s: &mut Store, i: usize) {
+    s.records[i] = Record::default();
+    place_mut(s.parity, w, i).fill(0);
+}
+
+/// Releases what is spent, lets the first of those that are ready rebuild, and begins again. One that is spoilt is released.
+/// Answers how many packets were rebuilt, and how many were spoilt.
+fn settle(w: &Window, s: &mut Store) -> (u64, u64) {
     let mut first: Option<(u64, u8, usize)> = None;
     for i in 0..w.k as usize {
         let record = s.records[i];
@@ -282,10 +336,7 @@ fn settle(w: &Window, s: &mut Store) -> u64 {
         }
         let places = places(w, record.stream, record.snbase).expect("a record in order");
         match missing(s, &places).len() {
-            0 => {
-                s.records[i] = Record::default();
-                payload_mut(s.parity, w, i).fill(0);
-            }
+            0 => release(w, s, i),
             1 => {
                 let candidate = (position(w, record.snbase), record.stream, i);
                 if first.is_none() || candidate < first.unwrap() {
@@ -296,14 +347,19 @@ fn settle(w: &Window, s: &mut Store) -> u64 {
         }
     }
     match first {
-        None => 0,
+        None => (0, 0),
         Some((_, stream, i)) => {
             let record = s.records[i];
             let places = places(w, stream, record.snbase).expect("a record in order");
             let lost = missing(s, &places)[0];
-            let recovery = payload(s.parity, w, i).to_vec();
-            rebuild(w, s, &places, lost, record.timestamp_recovery, &recovery);
-            1 + settle(w, s)
+            let bytes = payload(s.parity, w, i, record.payload_length).to_vec();
+            let recovery = Recovery { timestamp: record.timestamp_recovery, length: record.length_recovery, payload: bytes };
+            let good = rebuild(w, s, &places, lost, &recovery);
+            if !good {
+                release(w, s, i);
+            }
+            let (rebuilt, spoilt) = settle(w, s);
+            (rebuilt + u64::from(good), spoilt + u64::from(!good))
         }
     }
 }
@@ -323,10 +379,11 @@ pub fn media(w: Window, datagram: &[u8], s: &mut Store) -> Answer {
         Ok(i) => i,
     };
     s.timestamps[i] = four(datagram, 4);
-    payload_mut(s.media, &w, i).copy_from_slice(&datagram[12..]);
+    s.lengths[i] = (datagram.len() - 12) as u16;
+    keep(s.media, &w, i, &datagram[12..]);
     s.marks[i] = 1;
-    let count = settle(&w, s);
-    Answer { number: 0, count, window: recount(w, s) }
+    let (count, spoilt) = settle(&w, s);
+    Answer { number: 0, count, spoilt, window: recount(w, s) }
 }
 
 pub fn column(w: Window, datagram: &[u8], s: &mut Store) -> Answer {
@@ -342,20 +399,30 @@ fn parity(w: Window, stream: u8, datagram: &[u8], s: &mut Store) -> Answer {
         Err(number) => return refuse(number, w),
         Ok(places) => places,
     };
-    let (snbase, timestamp_recovery, recovery) = (two(datagram, 12), four(datagram, 20), &datagram[28..]);
+    let recovery = Recovery { timestamp: four(datagram, 20), length: two(datagram, 14), payload: datagram[28..].to_vec() };
     let lost = missing(s, &places);
-    let mut count = 0;
+    let (mut count, mut spoilt) = (0, 0);
     if lost.len() == 1 {
-        rebuild(&w, s, &places, lost[0], timestamp_recovery, recovery);
-        count = 1;
+        if rebuild(&w, s, &places, lost[0], &recovery) {
+            count = 1;
+        } else {
+            spoilt = 1;
+        }
     }
     if lost.len() >= 2 {
         let free = (0..w.k as usize).find(|&i| s.records[i].in_use == 0).expect("16 is ruled out");
-        s.records[free] = Record { stream, snbase, timestamp_recovery, in_use: 1 };
-        payload_mut(s.parity, &w, free).copy_from_slice(recovery);
+        s.records[free] = Record {
+            stream,
+            snbase: two(datagram, 12),
+            timestamp_recovery: recovery.timestamp,
+            length_recovery: recovery.length,
+            payload_length: recovery.payload.len() as u16,
+            in_use: 1,
+        };
+        keep(s.parity, &w, free, &recovery.payload);
     }
-    count += settle(&w, s);
-    Answer { number: 0, count, window: recount(w, s) }
+    let more = settle(&w, s);
+    Answer { number: 0, count: count + more.0, spoilt: spoilt + more.1, window: recount(w, s) }
 }
 
 // ---- reading out and writing parity ----
@@ -377,7 +444,7 @@ pub fn read(w: Window, number: u16, s: &Store, out: &mut [u8]) -> Answer {
 
 fn hand_out(w: Window, bytes: &[u8], out: &mut [u8]) -> Answer {
     out[..bytes.len()].copy_from_slice(bytes);
-    Answer { number: 0, count: bytes.len() as u64, window: w }
+    Answer { number: 0, count: bytes.len() as u64, spoilt: 0, window: w }
 }
 
 fn read_bytes(w: &Window, number: u16, s: &Store, out_len: usize) -> Result<Vec<u8>, u32> {
@@ -387,7 +454,7 @@ fn read_bytes(w: &Window, number: u16, s: &Store, out_len: usize) -> Result<Vec<
     let i = i as usize;
     no_if(s.marks[i] == 0, 17)?;
     let mut bytes = rtp_header(33, Stamp { sequence: number, timestamp: s.timestamps[i], ssrc: w.ssrc });
-    bytes.extend(payload(s.media, w, i));
+    bytes.extend(payload(s.media, w, i, s.lengths[i]));
     Ok(bytes)
 }
 
@@ -412,12 +479,13 @@ fn parity_bytes(w: &Window, stream: u8, snbase: u16, stamp: Stamp, s: &Store, ou
     let places = places(w, stream, snbase).ok_or(13u32)?;
     no_if(!missing(s, &places).is_empty(), 17)?;
     let (mut length, mut payload_type, mut timestamp) = (0u16, 0u8, 0u32);
-    let mut recovery = vec![0; w.p as usize];
+    let longest = places.iter().map(|&i| s.lengths[i]).max().unwrap_or(0);
+    let mut recovery = vec![0; usize::from(longest)];
     for &i in &places {
-        length ^= w.p as u16;
+        length ^= s.lengths[i];
         payload_type ^= 33;
         timestamp ^= s.timestamps[i];
-        xor_into(&mut recovery, payload(s.media, w, i));
+        xor_into(&mut recovery, payload(s.media, w, i, s.lengths[i]));
     }
     let mut bytes = rtp_header(96, stamp);
     bytes.extend(snbase.to_be_bytes());
@@ -440,6 +508,7 @@ mod tests {
     struct Held {
         media: Vec<u8>,
         timestamps: Vec<u32>,
+        lengths: Vec<u16>,
         marks: Vec<u8>,
         parity: Vec<u8>,
         records: Vec<Record>,
@@ -450,9 +519,10 @@ mod tests {
             Held {
                 media: vec![9; n * p],
                 timestamps: vec![9; n],
+                lengths: vec![9; n],
                 marks: vec![9; n],
                 parity: vec![9; k * p],
-                records: vec![Record { stream: 9, snbase: 9, timestamp_recovery: 9, in_use: 9 }; k],
+                records: vec![Record { stream: 9, snbase: 9, timestamp_recovery: 9, length_recovery: 9, payload_length: 9, in_use: 9 }; k],
             }
         }
 
@@ -460,6 +530,7 @@ mod tests {
             Store {
                 media: &mut self.media,
                 timestamps: &mut self.timestamps,
+                lengths: &mut self.lengths,
                 marks: &mut self.marks,
                 parity: &mut self.parity,
                 records: &mut self.records,
@@ -584,10 +655,140 @@ mod tests {
     fn of_a_free_record_only_the_mark_counts() {
         let mut held = Held::new(16, 8, 188);
         let w = open(asked(0, 4, 4, 188, 16, 8), &mut held.lend()).window;
-        held.records[3] = Record { stream: 200, snbase: 60_000, timestamp_recovery: 1, in_use: 0 };
+        held.records[3] = Record { stream: 200, snbase: 60_000, timestamp_recovery: 1, length_recovery: 2, payload_length: 3, in_use: 0 };
         held.timestamps[2] = 5;
+        held.lengths[2] = 6;
         assert_eq!(media(w, &packet(0, 1, 188), &mut held.lend()).number, 0);
         assert_eq!(held.records[3].stream, 200);
-        assert_eq!(held.timestamps[2], 5);
+        assert_eq!((held.timestamps[2], held.lengths[2]), (5, 6));
+    }
+
+    /// A row of four with 1, 3, 2 and 2 units of 188, and its parity; the first is missing.
+    fn mixed() -> (Window, Held, Vec<Vec<u8>>, Vec<u8>) {
+        let sent: Vec<Vec<u8>> =
+            [1, 3, 2, 2].iter().enumerate().map(|(i, units)| packet(i as u16, 11 + 3 * i as u32, units * 188)).collect();
+        let mut whole = Held::new(16, 8, 752);
+        let mut w = open(asked(0, 4, 4, 752, 16, 8), &mut whole.lend()).window;
+        for packet in &sent {
+            w = media(w, packet, &mut whole.lend()).window;
+        }
+        let mut row = vec![0xEE; 28 + 752];
+        let answer = write_row(w, 0, Stamp { sequence: 1, timestamp: 2, ssrc: 3 }, &whole.lend(), &mut row);
+        assert_eq!((answer.number, answer.count), (0, 28 + 564));
+        assert!(row[28 + 564..].iter().all(|&byte| byte == 0xEE));
+        row.truncate(28 + 564);
+        assert_eq!(u16::from_be_bytes([row[14], row[15]]), 188 ^ 564);
+        let mut held = Held::new(16, 8, 752);
+        let mut v = open(asked(0, 4, 4, 752, 16, 8), &mut held.lend()).window;
+        for packet in &sent[1..] {
+            v = media(v, packet, &mut held.lend()).window;
+        }
+        (v, held, sent, row)
+    }
+
+    #[test]
+    fn a_short_packet_comes_back_with_its_length() {
+        let (v, mut held, sent, parity) = mixed();
+        let answer = row(v, &parity, &mut held.lend());
+        assert_eq!((answer.number, answer.count, answer.spoilt, answer.window.in_use), (0, 1, 0, 0));
+        assert_eq!((held.lengths[0], held.timestamps[0]), (188, 11));
+        assert!(held.media[188..752].iter().all(|&byte| byte == 0));
+        let mut out = vec![0xEE; 12 + 752];
+        assert_eq!(read(answer.window, 0, &held.lend(), &mut out).count, 200);
+        assert_eq!((&out[12..200], out[200]), (&sent[0][12..], 0xEE));
+        // Other bytes past a kept length count as zero, and stay.
+        held.media[188..752].fill(7);
+        assert_eq!(media(answer.window, &sent[0], &mut held.lend()).number, 14);
+        let mut again = vec![0; 28 + 752];
+        let written = write_row(answer.window, 0, Stamp { sequence: 1, timestamp: 2, ssrc: 3 }, &held.lend(), &mut again);
+        assert_eq!((written.count, &again[..28 + 564]), (28 + 564, &parity[..]));
+        assert!(held.media[188..752].iter().all(|&byte| byte == 7));
+        // The same bytes and a length that differs.
+        let mut longer = sent[0].clone();
+        longer.extend([0; 188]);
+        assert_eq!(media(answer.window, &longer, &mut held.lend()).number, 15);
+        held.lengths[0] = 0;
+        assert_eq!(media(answer.window, &sent[0], &mut held.lend()).number, 5);
+    }
+
+    /// Each way to be spoilt, offered: answered 0 with one spoilt, and nothing has changed.
+    #[test]
+    fn spoilt_when_it_is_offered() {
+        let length = |datagram: &mut Vec<u8>, by: u16| {
+            let old = u16::from_be_bytes([datagram[14], datagram[15]]);
+            datagram[14..16].copy_from_slice(&(old ^ by).to_be_bytes());
+        };
+        let mut lies: Vec<Vec<u8>> = Vec::new();
+        let (v, held, sent, good) = mixed();
+        lies.extend((0..4).map(|_| good.clone()));
+        length(&mut lies[0], 188); // zero
+        length(&mut lies[1], 188 ^ 189); // not in units
+        length(&mut lies[2], 188 ^ 752); // above the payload
+        lies[3][28 + 563] ^= 1; // a byte past it
+        lies.push(good[..28 + 376].to_vec()); // the others are longer than the parity: the last unit of packet 1 is left over
+        for lie in lies {
+            let (_, mut store, ..) = mixed();
+            store.media[..752].fill(0x77);
+            store.timestamps[0] = 5;
+            store.lengths[0] = 6;
+            let answer = row(v, &lie, &mut store.lend());
+            assert_eq!((answer.number, answer.count, answer.spoilt, answer.window), (0, 0, 1, v));
+            assert!(store.media[..752].iter().all(|&byte| byte == 0x77));
+            assert_eq!((store.timestamps[0], store.lengths[0], store.marks[0]), (5, 6, 0));
+            assert_eq!((&store.media[752..], &store.records, &store.parity), (&held.media[752..], &held.records, &held.parity));
+        }
+        // Longer than the longest, with zeros: that is no lie about the packet.
+        let (_, mut store, ..) = mixed();
+        let mut longer = good;
+        longer.extend([0; 188]);
+        let answer = row(v, &longer, &mut store.lend());
+        assert_eq!((answer.number, answer.count, answer.spoilt, store.lengths[0]), (0, 1, 0, 188));
+        assert_eq!(store.media[..188], sent[0][12..]);
+    }
+
+    /// In hand: the spoilt one is released, and the next one that is ready has its turn.
+    #[test]
+    fn spoilt_in_hand() {
+        let (v, mut held, sent, good) = mixed();
+        let w = open(v, &mut held.lend()).window;
+        let mut lie = good.clone();
+        lie[28] ^= 1;
+        lie[15] ^= 188;
+        // A column that lies, over 0, 4, 8 and 12, and the row over 0 to 3.
+        let mut column_parity = lie.clone();
+        column_parity[24..27].copy_from_slice(&[0, 4, 4]);
+        let mut v = column(w, &column_parity, &mut held.lend()).window;
+        v = row(v, &good, &mut held.lend()).window;
+        for i in [4u16, 8, 12] {
+            v = media(v, &packet(i, 3, 188), &mut held.lend()).window;
+            assert_eq!(v.in_use, if i == 12 { 1 } else { 2 });
+        }
+        assert_eq!((v.present, held.records[0], held.marks[0]), (3, Record::default(), 0));
+        for packet in &sent[1..] {
+            v = media(v, packet, &mut held.lend()).window;
+        }
+        assert_eq!((v.present, v.in_use, held.lengths[0]), (7, 0, 188));
+    }
+
+    #[test]
+    fn kept_lengths_out_of_order() {
+        let (v, mut held, sent, good) = mixed();
+        let w = open(v, &mut held.lend()).window;
+        let v = row(w, &good, &mut held.lend()).window;
+        let v = media(v, &sent[1], &mut held.lend()).window;
+        let number = |held: &mut Held| read(v, 1, &held.lend(), &mut [0; 764]).number;
+        for bad in [0, 1, 187, 189, 204, 940, 65_535] {
+            let kept = std::mem::replace(&mut held.lengths[1], bad);
+            assert_eq!(number(&mut held), 5);
+            held.lengths[1] = kept;
+            let kept = std::mem::replace(&mut held.records[0].payload_length, bad);
+            assert_eq!(number(&mut held), 5);
+            held.records[0].payload_length = kept;
+            // Of a missing position, of a free record, and of the length recovery nothing is asked.
+            held.lengths[2] = bad;
+            held.records[1].payload_length = bad;
+            held.records[0].length_recovery = bad;
+            assert_eq!(number(&mut held), 0);
+        }
     }
 }

@@ -1,9 +1,9 @@
 //! Random traffic through both programs, a window at a time. A window is drawn wholly from its seed.
 
 use crate::model::{Record, Stamp, Window, COLUMN, ROW};
-use crate::pair::{Call, Lengths, Pair, Tally};
+use crate::pair::{Call, Pair, Sizes, Tally};
 use crate::rng::Rng;
-use crate::wire::Stretch;
+use crate::wire::{unit, Stretch};
 
 /// Elements past the longest part that is ever lent.
 const GUARD: usize = 16;
@@ -31,6 +31,10 @@ struct Mood {
     short: u64,
     lies: u64,
     repeats: u64,
+    /// Old bytes stand wherever nothing is kept, from the opening on.
+    dirty: bool,
+    /// Every offer is an unaltered packet of the stretch, and nobody else writes the store.
+    unaltered: bool,
 }
 
 struct Play<'a> {
@@ -44,6 +48,7 @@ struct Play<'a> {
     window_before: Window,
     stuck: u32,
     step: u64,
+    started: bool,
     tally: &'a mut Tally,
 }
 
@@ -51,8 +56,9 @@ struct Play<'a> {
 enum Change {
     Mark(usize, u8),
     Timestamp(usize, u32),
-    Media(usize, u8),
-    Parity(usize, u8),
+    Length(usize, u16),
+    Media(usize, Vec<u8>),
+    Parity(usize, Vec<u8>),
     Record(usize, Record),
 }
 
@@ -65,27 +71,33 @@ pub fn run(seed: u64, tally: &mut Tally) -> Result<(), String> {
     tally.profiles.insert((asked.l, asked.d));
     let (n, k, p) = (asked.n as usize, asked.k as usize, asked.p as usize);
     let slack = rng.pick(&[0, 0, 1, 3, 20]);
-    let size = Lengths {
+    let size = Sizes {
         media: n * p + slack * p + slack % 3 + GUARD,
         timestamps: n + slack + GUARD,
+        lengths: n + slack + GUARD,
         marks: n + slack + GUARD,
         parity: k * p + slack * p + slack % 3 + GUARD,
         records: k + slack + GUARD,
         out: 28 + p + 64,
     };
     let calm = rng.chance(250);
+    let lies = if knotted { 1000 } else { rng.pick(&[0, 0, 100, 600, 1000]) };
+    let unaltered = calm && lies == 0;
     let mood = Mood {
         disturb: if calm { 0 } else { rng.pick(&[20, 100, 300]) },
         made_up: if calm { 0 } else { rng.pick(&[0, 10, 40]) },
         short: if calm { 0 } else { rng.pick(&[0, 5, 20]) },
-        lies: if knotted { 1000 } else { rng.pick(&[0, 0, 100, 600, 1000]) },
+        lies,
         repeats: rng.pick(&[0, 50, 300]),
+        dirty: !unaltered && rng.chance(500),
+        unaltered,
     };
     let stretch = Stretch::draw(&mut rng, asked.base, asked.l as usize, asked.d as usize, p, n);
     let pair = Pair::new(&mut rng, size);
     let (window, window_before) = (Window::default(), Window::default());
     let list = if knotted { knot(&mut rng, &stretch) } else { offers(&mut rng, &stretch, mood.lies, mood.repeats) };
-    let mut play = Play { rng, mood, asked, window, stretch, pair, undo: Vec::new(), window_before, stuck: 0, step: 0, tally };
+    let mut play =
+        Play { rng, mood, asked, window, stretch, pair, undo: Vec::new(), window_before, stuck: 0, step: 0, started: false, tally };
     match play.whole(list) {
         Ok(()) => Ok(()),
         Err(text) => Err(format!("step {}\n{text}", play.step)),
@@ -99,7 +111,7 @@ fn draw_window(seed: u64, rng: &mut Rng) -> Window {
     } else {
         rng.pick(&[(1, 4), (2, 4), (3, 4), (4, 4), (4, 4), (4, 5), (5, 4), (5, 5), (3, 5), (6, 4), (4, 7)])
     };
-    let p = if rng.chance(900) { rng.pick(&[188, 188, 188, 204]) } else { rng.pick(&sizes()) };
+    let p = if rng.chance(900) { rng.pick(&[188, 188, 204, 376, 376, 408, 564]) } else { rng.pick(&sizes()) };
     let least = l * d;
     let most = if p > 204 { (2 * least).min(400) } else { 400 };
     let n = match rng.below(10) {
@@ -128,7 +140,8 @@ fn draw_knotted_window(rng: &mut Rng) -> Window {
     let (l, d) = rng.pick(&[(4, 4), (4, 4), (4, 5), (5, 4), (6, 4)]);
     let n = l * d + l * rng.between(1, 3) + rng.below(l);
     let base = (65_536 - rng.below(n + 1)) as u16;
-    Window { base, ssrc: rng.next() as u32, l, d, p: 188, n, k: rng.between(40, 128), present: 0, in_use: 0 }
+    let p = rng.pick(&[188, 188, 376, 408, 564]);
+    Window { base, ssrc: rng.next() as u32, l, d, p, n, k: rng.between(40, 128), present: 0, in_use: 0 }
 }
 
 /// A value near the present one, or one that no set-up has.
@@ -181,7 +194,7 @@ fn offers(rng: &mut Rng, stretch: &Stretch, lies: u64, repeats: u64) -> Vec<(u8,
         let last = stretch.members(stream, start).into_iter().max().unwrap_or(start).max(0) as u64;
         let mut datagram = stretch.parity(stream, start, rng.next() as u16, rng.next() as u32, rng.next() as u32);
         if rng.chance(lies) {
-            lie(rng, &mut datagram);
+            lie(rng, stretch, stream, start, &mut datagram);
         }
         list.push((last * 4 + 1 + u64::from(stream), stream + 2, datagram));
     }
@@ -230,7 +243,7 @@ fn knot(rng: &mut Rng, stretch: &Stretch) -> Vec<(u8, Vec<u8>)> {
             let covered = stretch.members(stream, start).into_iter().filter(|&i| late.contains(&(i as usize))).count();
             if covered >= 2 && rng.chance(density) {
                 let mut datagram = stretch.parity(stream, start, 0, 0, 0);
-                lie(rng, &mut datagram);
+                lie(rng, stretch, stream, start, &mut datagram);
                 parity.push((stream + 2, datagram));
             }
         }
@@ -283,14 +296,61 @@ fn groups(rng: &mut Rng, stretch: &Stretch) -> Vec<(u8, i64)> {
     list
 }
 
-/// Parity that keeps its shape and says something else.
-fn lie(rng: &mut Rng, datagram: &mut [u8]) {
-    if rng.chance(800) {
+/// Parity that keeps its shape and says something else: of payloads and timestamps, or of lengths.
+fn lie(rng: &mut Rng, stretch: &Stretch, stream: u8, start: i64, datagram: &mut Vec<u8>) {
+    let of_lengths = rng.chance(400);
+    if of_lengths {
+        lie_of_lengths(rng, stretch, stream, start, datagram);
+    }
+    if rng.chance(if of_lengths { 100 } else { 800 }) {
         let at = 28 + rng.index(datagram.len() - 28);
         datagram[at] ^= rng.between(1, 255) as u8;
     }
     if rng.chance(600) {
         rng.fill(&mut datagram[20..24]);
+    }
+}
+
+/// The length of a packet that was never sent: good, zero, not in units, or longer than the parity or P.
+fn false_length(rng: &mut Rng, p: usize, parity: usize) -> usize {
+    let unit = unit(p);
+    match rng.below(8) {
+        0 => 0,
+        1 => rng.pick(&[1, 2, unit - 1, unit + 1, p - 1, p + 1, 188, 204, 47, 51, 4]),
+        2 => parity + unit,
+        3 => rng.pick(&[p + unit, 65_535, 188 * 204, 40_960, 256 * unit]),
+        _ => rng.between(1, (p / unit) as u64) as usize * unit,
+    }
+}
+
+fn lie_of_lengths(rng: &mut Rng, stretch: &Stretch, stream: u8, start: i64, datagram: &mut Vec<u8>) {
+    let (unit, p, end) = (unit(stretch.p), stretch.p, datagram.len());
+    match rng.below(8) {
+        0..=3 => {
+            // As if one of the group had another length.
+            let member = rng.pick(&stretch.members(stream, start));
+            let was = stretch.payloads.get(member.max(0) as usize).map_or(p, Vec::len);
+            let by = (was ^ false_length(rng, p, end - 28)) as u16;
+            datagram[14] ^= (by >> 8) as u8;
+            datagram[15] ^= by as u8;
+        }
+        4 => rng.fill(&mut datagram[14..16]),
+        5 if end - 28 < p => {
+            // Longer than the longest of its group, by zeros or not.
+            let longer = end + unit * rng.between(1, ((p + 28 - end) / unit) as u64) as usize;
+            datagram.resize(longer, 0);
+            if rng.chance(500) {
+                let at = end + rng.index(longer - end);
+                datagram[at] = rng.byte();
+            }
+        }
+        6 if end - 28 > unit => datagram.truncate(end - unit),
+        _ => {
+            // A byte that is past the length of the shorter ones.
+            let anywhere = end - 1 - rng.index(unit);
+            let at = rng.pick(&[end - 1, end - unit, anywhere]);
+            datagram[at] ^= rng.between(1, 255) as u8;
+        }
     }
 }
 
@@ -320,12 +380,16 @@ fn alter(rng: &mut Rng, stretch: &Stretch, port: u8, datagram: &mut Vec<u8>) {
             }
             9 => {
                 // Every kind of length near a bound.
-                let len = rng.pick(&[0, 1, 11, 12, 13, 27, 28, 29, datagram.len() - 1, datagram.len() - 12, datagram.len() - 16]);
+                let (end, unit) = (datagram.len(), unit(stretch.p));
+                let fewer = end.saturating_sub(unit);
+                let len = rng.pick(&[0, 1, 11, 12, 13, 27, 28, 29, end - 1, end - 12, end - 16, fewer, fewer, headers + unit]);
                 datagram.truncate(len);
             }
             10 => {
-                let more = rng.pick(&[1, 1, 2, 12, 16, 188, 600]);
-                datagram.extend(std::iter::repeat(7).take(more));
+                let unit = unit(stretch.p);
+                let more = rng.pick(&[1, 1, 2, 12, 16, 188, 204, 600, unit, unit, stretch.p]);
+                let byte = rng.pick(&[0, 0, 7]);
+                datagram.extend(std::iter::repeat(byte).take(more));
             }
             11 => {
                 let at = rng.index(datagram.len());
@@ -341,15 +405,12 @@ fn alter(rng: &mut Rng, stretch: &Stretch, port: u8, datagram: &mut Vec<u8>) {
                 datagram[at] ^= rng.between(1, 255) as u8;
             }
             13 => {
-                // Another NA, with the recovery fields that would fit it.
+                // Another NA, with the recovery of payload types that would fit it.
                 let na = datagram[26].wrapping_add(rng.pick(&[1, 255, 2]));
                 datagram[26] = na;
-                recovery_fields(datagram, na % 2 == 1, stretch.p as u16);
+                datagram[16] = 0x80 | if na % 2 == 1 { 33 } else { 0 };
             }
-            14 => {
-                let odd = datagram[16] & 1 == 1;
-                recovery_fields(datagram, !odd, stretch.p as u16);
-            }
+            14 => datagram[16] = 0x80 | if datagram[16] & 1 == 1 { 0 } else { 33 },
             15 => datagram[16] ^= rng.pick(&[33, 0x80, 1, 0x40]),
             16 => datagram[14 + rng.index(2)] ^= rng.pick(&[1, 2, 128]),
             17 => datagram[24] ^= rng.pick(&[0x80, 0x40, 0x40, 0x20, 0x10, 0x08, 0x04, 0x02, 0x01]),
@@ -362,11 +423,6 @@ fn alter(rng: &mut Rng, stretch: &Stretch, port: u8, datagram: &mut Vec<u8>) {
             _ => datagram[27] = rng.pick(&[1, 128, 255]),
         }
     }
-}
-
-fn recovery_fields(datagram: &mut [u8], odd: bool, p: u16) {
-    datagram[14..16].copy_from_slice(&(if odd { p } else { 0 }).to_be_bytes());
-    datagram[16] = 0x80 | if odd { 33 } else { 0 };
 }
 
 fn on_port(port: u8, datagram: Vec<u8>) -> Call {
@@ -383,6 +439,16 @@ impl Play<'_> {
             self.refused_opening()?;
         }
         self.call(Call::Open(self.asked))?;
+        self.started = true;
+        if self.mood.dirty {
+            for i in 0..self.asked.n as usize {
+                self.smear_position(i);
+            }
+            for r in 0..self.asked.k as usize {
+                self.smear_record(r);
+            }
+            self.undo.clear();
+        }
         for (port, datagram) in list {
             while self.rng.chance(self.mood.disturb) {
                 self.disturb()?;
@@ -420,6 +486,65 @@ impl Play<'_> {
         }
     }
 
+    /// A packet that is held, as the store has it, mostly with one thing changed; any packet where none is held.
+    fn held_packet(&mut self) -> (u8, Vec<u8>) {
+        let (size, p) = (self.pair.size(), self.window.p as usize);
+        let i = self.rng.index((self.window.n as usize).clamp(1, size.marks.min(size.lengths)));
+        let r = self.rng.index((self.window.k as usize).clamp(1, size.records));
+        let record = self.pair.record(r);
+        let kept = |part: &[u8], index: usize, len: u16| Some(part.get(index.checked_mul(p)?..)?.get(..usize::from(len))?.to_vec());
+        let mut found = None;
+        if self.rng.chance(600) {
+            if record.in_use == 1 {
+                let start = i64::from(record.snbase.wrapping_sub(self.stretch.base) as i16);
+                let mut datagram = self.stretch.parity(record.stream & 1, start, 0, 0, 0);
+                datagram[14..16].copy_from_slice(&record.length_recovery.to_be_bytes());
+                datagram[20..24].copy_from_slice(&record.timestamp_recovery.to_be_bytes());
+                datagram.truncate(28);
+                found = kept(self.pair.parity(), r, record.payload_length).map(|payload| (record.stream & 1, datagram, payload));
+                found = found.map(|(stream, datagram, payload)| (stream + 2, datagram, payload));
+            }
+        } else if self.pair.mark(i) == 1 {
+            let mut datagram = vec![0x80, 33];
+            datagram.extend(self.window.base.wrapping_add(i as u16).to_be_bytes());
+            datagram.extend(self.pair.timestamp(i).to_be_bytes());
+            datagram.extend([0; 4]);
+            found = kept(self.pair.media(), i, self.pair.length(i)).map(|payload| (1, datagram, payload));
+        }
+        let (port, mut datagram, mut payload) = match found {
+            Some((port, datagram, payload)) if !payload.is_empty() => (port, datagram, payload),
+            _ => return self.any_packet(),
+        };
+        let (end, unit) = (payload.len(), unit(self.stretch.p));
+        match self.rng.below(10) {
+            0..=2 => {}
+            3 => {
+                let at = if port == 1 { 4 } else { 20 } + self.rng.index(4);
+                datagram[at] ^= 1 << self.rng.below(8);
+            }
+            4 => payload[end - 1] ^= 1 << self.rng.below(8),
+            5..=6 => payload.resize(end + unit, 0),
+            7 => payload.truncate(end.saturating_sub(unit)),
+            _ => {
+                let at = if port == 1 { 7 } else { 14 + self.rng.index(2) };
+                datagram[at] ^= 1 << self.rng.below(8);
+            }
+        }
+        datagram.extend(payload);
+        (port, datagram)
+    }
+
+    /// A length that is kept, good in so many cases of a thousand.
+    fn any_length(&mut self, good: u64) -> u16 {
+        let p = self.asked.p as usize;
+        let length = match self.rng.chance(good) {
+            true => unit(p) * self.rng.between(1, (p / unit(p)) as u64) as usize,
+            false if self.rng.chance(200) => self.rng.index(65_536),
+            false => false_length(&mut self.rng, p, p),
+        };
+        length as u16
+    }
+
     fn any_number(&mut self) -> u16 {
         let n = self.window.n.min(1000);
         match self.rng.below(8) {
@@ -443,7 +568,11 @@ impl Play<'_> {
     }
 
     fn disturb(&mut self) -> Result<(), String> {
-        match self.rng.below(20) {
+        match self.rng.below(24) {
+            20..=23 => {
+                let (port, datagram) = self.held_packet();
+                self.call(on_port(port, datagram))
+            }
             0..=6 => {
                 let (port, mut datagram) = self.any_packet();
                 alter(&mut self.rng, &self.stretch, port, &mut datagram);
@@ -459,7 +588,10 @@ impl Play<'_> {
                 let len = match self.rng.below(3) {
                     0 => self.rng.index(40),
                     1 => self.rng.index(1500),
-                    _ => self.rng.pick(&[12, 28]) + self.asked.p as usize,
+                    _ => {
+                        let p = self.asked.p as usize;
+                        self.rng.pick(&[12, 28]) + unit(p) * self.rng.between(0, (p / unit(p)) as u64 + 1) as usize
+                    }
                 };
                 let mut datagram = vec![0; len];
                 self.rng.fill(&mut datagram);
@@ -498,11 +630,33 @@ impl Play<'_> {
         let marks = (self.window.n as usize + 1).min(size.marks);
         let records = (self.window.k as usize + 1).min(size.records);
         let (i, r) = (self.rng.index(marks), self.rng.index(records));
-        match self.rng.below(13) {
+        match self.rng.below(20) {
+            13..=15 => {
+                self.undo.push(Change::Length(i, self.pair.length(i)));
+                let to = self.any_length(500);
+                self.pair.set_length(i, to);
+            }
+            16..=18 => {
+                for _ in 0..self.rng.pick(&[1, 4, 20]) {
+                    let i = self.rng.index(marks);
+                    self.smear_position(i);
+                }
+            }
+            19 => {
+                for _ in 0..self.rng.pick(&[1, 4, 20]) {
+                    let r = self.rng.index(records);
+                    self.smear_record(r);
+                }
+            }
             0..=2 => {
                 let (old, new) = (self.pair.mark(i), self.rng.pick(&[0, 1, 1, 2, 255]));
                 self.undo.push(Change::Mark(i, old));
                 self.pair.set_mark(i, new);
+                if new == 1 && self.rng.chance(800) {
+                    self.undo.push(Change::Length(i, self.pair.length(i)));
+                    let to = self.any_length(950);
+                    self.pair.set_length(i, to);
+                }
                 if self.rng.chance(700) && (i as u64) < self.window.n {
                     self.window.present = self.window.present.wrapping_add(u64::from(new == 1)).wrapping_sub(u64::from(old == 1));
                 }
@@ -514,20 +668,22 @@ impl Play<'_> {
             }
             4..=5 => {
                 let at = self.rng.index(size.media);
-                self.undo.push(Change::Media(at, self.pair.media_byte(at)));
+                self.undo.push(Change::Media(at, self.pair.media()[at..=at].to_vec()));
                 let to = self.rng.byte();
-                self.pair.set_media_byte(at, to);
+                self.pair.set_media(at, &[to]);
             }
             6..=7 => {
                 let at = self.rng.index(size.parity);
-                self.undo.push(Change::Parity(at, self.pair.parity_byte(at)));
+                self.undo.push(Change::Parity(at, self.pair.parity()[at..=at].to_vec()));
                 let to = self.rng.byte();
-                self.pair.set_parity_byte(at, to);
+                self.pair.set_parity(at, &[to]);
             }
             _ => {
                 let old = self.pair.record(r);
                 let mut new = old;
-                match self.rng.below(8) {
+                match self.rng.below(11) {
+                    8..=9 => new.payload_length = self.any_length(500),
+                    10 => new.length_recovery = self.rng.next() as u16,
                     0 => new.stream = self.rng.pick(&[0, 1, 2, 255]),
                     1 => new.snbase = self.any_number(),
                     2 => new.timestamp_recovery = self.rng.next() as u32,
@@ -535,12 +691,26 @@ impl Play<'_> {
                     4 => new = self.pair.record((r + 1) % records),
                     5 if old.in_use == 0 => {
                         // Old bytes in a free record.
-                        new = Record { stream: self.rng.byte(), snbase: self.any_number(), timestamp_recovery: 5, in_use: 0 };
+                        new = Record {
+                            stream: self.rng.byte(),
+                            snbase: self.any_number(),
+                            timestamp_recovery: 5,
+                            length_recovery: self.rng.next() as u16,
+                            payload_length: self.any_length(300),
+                            in_use: 0,
+                        };
                     }
                     _ => {
                         // A parity packet put in hand from outside.
                         let stream = self.rng.pick(&[COLUMN, ROW]);
-                        new = Record { stream, snbase: self.any_number(), timestamp_recovery: self.rng.next() as u32, in_use: 1 };
+                        new = Record {
+                            stream,
+                            snbase: self.any_number(),
+                            timestamp_recovery: self.rng.next() as u32,
+                            length_recovery: self.any_length(700),
+                            payload_length: self.any_length(900),
+                            in_use: 1,
+                        };
                     }
                 }
                 self.undo.push(Change::Record(r, old));
@@ -553,13 +723,60 @@ impl Play<'_> {
         }
     }
 
+    /// Other bytes where a position keeps nothing: past its length, or all of it where its packet is missing.
+    fn smear_position(&mut self, i: usize) {
+        let p = self.asked.p as usize;
+        let from = if self.pair.mark(i) == 0 { 0 } else { usize::from(self.pair.length(i)) };
+        let at = i * p + from.min(p);
+        let mut bytes = vec![0; p.saturating_sub(from).min(self.pair.media().len().saturating_sub(at))];
+        self.rng.fill(&mut bytes);
+        if !bytes.is_empty() {
+            self.undo.push(Change::Media(at, self.pair.media()[at..at + bytes.len()].to_vec()));
+            self.pair.set_media(at, &bytes);
+        }
+        if self.pair.mark(i) == 0 {
+            self.undo.push(Change::Timestamp(i, self.pair.timestamp(i)));
+            self.undo.push(Change::Length(i, self.pair.length(i)));
+            let (timestamp, length) = (self.rng.next() as u32, self.any_length(500));
+            self.pair.set_timestamp(i, timestamp);
+            self.pair.set_length(i, length);
+        }
+    }
+
+    /// The same for a record: past the length of its payload, or all of it where it is free.
+    fn smear_record(&mut self, r: usize) {
+        let p = self.asked.p as usize;
+        let old = self.pair.record(r);
+        let from = if old.in_use == 0 { 0 } else { usize::from(old.payload_length) };
+        let at = r * p + from.min(p);
+        let mut bytes = vec![0; p.saturating_sub(from).min(self.pair.parity().len().saturating_sub(at))];
+        self.rng.fill(&mut bytes);
+        if !bytes.is_empty() {
+            self.undo.push(Change::Parity(at, self.pair.parity()[at..at + bytes.len()].to_vec()));
+            self.pair.set_parity(at, &bytes);
+        }
+        if old.in_use == 0 {
+            let new = Record {
+                stream: self.rng.pick(&[0, 1, 255]),
+                snbase: self.any_number(),
+                timestamp_recovery: self.rng.next() as u32,
+                length_recovery: self.any_length(500),
+                payload_length: self.any_length(500),
+                in_use: 0,
+            };
+            self.undo.push(Change::Record(r, old));
+            self.pair.set_record(r, new);
+        }
+    }
+
     fn undo(&mut self) {
         while let Some(change) = self.undo.pop() {
             match change {
                 Change::Mark(i, to) => self.pair.set_mark(i, to),
                 Change::Timestamp(i, to) => self.pair.set_timestamp(i, to),
-                Change::Media(i, to) => self.pair.set_media_byte(i, to),
-                Change::Parity(i, to) => self.pair.set_parity_byte(i, to),
+                Change::Length(i, to) => self.pair.set_length(i, to),
+                Change::Media(i, to) => self.pair.set_media(i, &to),
+                Change::Parity(i, to) => self.pair.set_parity(i, &to),
                 Change::Record(i, to) => self.pair.set_record(i, to),
             }
         }
@@ -567,7 +784,7 @@ impl Play<'_> {
     }
 
     /// What is lent: exactly the need or more, at times one part too short.
-    fn lengths(&mut self, w: &Window, call: &Call) -> Lengths {
+    fn lent(&mut self, w: &Window, call: &Call) -> Sizes {
         let size = self.pair.size();
         let loose = self.rng.chance(500);
         let lend = |need: u64, whole: usize| {
@@ -579,9 +796,10 @@ impl Play<'_> {
             }
         };
         let headers = if matches!(call, Call::Read(_)) { 12 } else { 28 };
-        let mut lengths = Lengths {
+        let mut lent = Sizes {
             media: lend(w.n.saturating_mul(w.p), size.media),
             timestamps: lend(w.n, size.timestamps),
+            lengths: lend(w.n, size.lengths),
             marks: lend(w.n, size.marks),
             parity: lend(w.k.saturating_mul(w.p), size.parity),
             records: lend(w.k, size.records),
@@ -590,16 +808,17 @@ impl Play<'_> {
         if matches!(call, Call::Read(_) | Call::WriteColumn(..) | Call::WriteRow(..)) && self.rng.chance(3 * self.mood.short) {
             // Often just under the need, whatever else is wrong.
             let under = self.rng.between(1, 3) as usize;
-            lengths.out = ((w.p.min(1428) + headers) as usize - under).min(lengths.out);
+            lent.out = ((w.p.min(1428) + headers) as usize - under).min(lent.out);
         }
         if self.rng.chance(self.mood.short) {
-            let part = match self.rng.below(6) {
-                0 => &mut lengths.media,
-                1 => &mut lengths.timestamps,
-                2 => &mut lengths.marks,
-                3 => &mut lengths.parity,
-                4 => &mut lengths.records,
-                _ => &mut lengths.out,
+            let part = match self.rng.below(7) {
+                0 => &mut lent.media,
+                1 => &mut lent.timestamps,
+                2 => &mut lent.marks,
+                3 => &mut lent.parity,
+                4 => &mut lent.records,
+                5 => &mut lent.lengths,
+                _ => &mut lent.out,
             };
             *part = match self.rng.below(6) {
                 0 => 0,
@@ -607,7 +826,7 @@ impl Play<'_> {
                 _ => part.saturating_sub(1),
             };
         }
-        lengths
+        lent
     }
 
     /// One call to both, with all that comes with it.
@@ -615,10 +834,13 @@ impl Play<'_> {
         let made_up = !matches!(call, Call::Open(_)) && self.rng.chance(self.mood.made_up);
         let window = if made_up { make_up(&mut self.rng, self.window) } else { self.window };
         let sized_by = if let Call::Open(asked) = &call { *asked } else { window };
-        let lengths = self.lengths(&sized_by, &call);
+        let lent = self.lent(&sized_by, &call);
         self.step += 1;
         let filler = self.rng.byte();
-        let answer = self.pair.run(window, &call, lengths, filler, self.tally)?;
+        let answer = self.pair.run(window, &call, lent, filler, self.tally)?;
+        if answer.spoilt != 0 && self.mood.unaltered && self.started {
+            return Err(format!("  {} spoilt by unaltered traffic\n", answer.spoilt));
+        }
         if !made_up || answer.number == 0 {
             self.window = answer.window;
         }
@@ -654,7 +876,7 @@ mod tests {
             let (mut a, mut b) = (Tally::default(), Tally::default());
             run(seed, &mut a).unwrap();
             run(seed, &mut b).unwrap();
-            assert_eq!((a.calls, a.numbers, a.rebuilt), (b.calls, b.numbers, b.rebuilt));
+            assert_eq!((a.calls, a.numbers, a.rebuilt, a.spoilt), (b.calls, b.numbers, b.rebuilt, b.spoilt));
         }
     }
 }

@@ -9,7 +9,17 @@ pub struct Stretch {
     pub d: usize,
     pub p: usize,
     pub timestamps: Vec<u32>,
+    /// One or more whole units up to P, each packet its own.
     pub payloads: Vec<Vec<u8>>,
+}
+
+/// What P is made of: 188 or 204.
+pub fn unit(p: usize) -> usize {
+    if p % 188 == 0 {
+        188
+    } else {
+        204
+    }
 }
 
 impl Stretch {
@@ -18,12 +28,16 @@ impl Stretch {
         let wild = rng.chance(500);
         let start = rng.next() as u32;
         let timestamps = (0..n as u32).map(|i| if wild { rng.next() as u32 } else { start.wrapping_add(i.wrapping_mul(step)) }).collect();
+        // Sparse payloads are mostly zeros, so that a length is all that tells some of them apart.
         let sparse = rng.chance(150);
+        let units = (p / unit(p)) as u64;
+        let short = rng.pick(&[0, 100, 500, 1000, 1000]);
         let payloads = (0..n)
             .map(|_| {
-                let mut bytes = vec![0; p];
+                let len = if rng.chance(short) { rng.between(1, units) as usize * unit(p) } else { p };
+                let mut bytes = vec![0; len];
                 if sparse {
-                    bytes[rng.index(p)] = rng.byte();
+                    bytes[rng.index(len)] = rng.byte();
                 } else {
                     rng.fill(&mut bytes);
                 }
@@ -76,17 +90,22 @@ impl Stretch {
         bytes
     }
 
-    /// The parity datagram of a group. Members outside the stretch count as zeros, so such a packet is a made-up one.
+    /// The parity datagram of a group, as long as the longest of it. Members outside the stretch count as zeros, so such a packet is
+    /// a made-up one.
     pub fn parity(&self, stream: u8, start: i64, sequence: u16, timestamp: u32, ssrc: u32) -> Vec<u8> {
-        let mut recovery = vec![0u8; self.p];
-        let mut timestamps = 0;
-        for i in self.members(stream, start) {
-            if i >= 0 && i < self.n() as i64 {
-                timestamps ^= self.timestamps[i as usize];
-                for (a, b) in recovery.iter_mut().zip(&self.payloads[i as usize]) {
-                    *a ^= b;
-                }
+        let inside = self.members(stream, start).into_iter().filter(|&i| i >= 0 && i < self.n() as i64);
+        let mut recovery: Vec<u8> = Vec::new();
+        let (mut timestamps, mut lengths) = (0, 0);
+        for i in inside.map(|i| i as usize) {
+            timestamps ^= self.timestamps[i];
+            lengths ^= self.payloads[i].len() as u16;
+            recovery.resize(recovery.len().max(self.payloads[i].len()), 0);
+            for (a, b) in recovery.iter_mut().zip(&self.payloads[i]) {
+                *a ^= b;
             }
+        }
+        if recovery.is_empty() {
+            recovery.resize(self.p, 0);
         }
         let odd = self.size(stream) % 2 == 1;
         let mut bytes = vec![0x80, 96];
@@ -94,7 +113,7 @@ impl Stretch {
         bytes.extend(timestamp.to_be_bytes());
         bytes.extend(ssrc.to_be_bytes());
         bytes.extend(self.number(start).to_be_bytes());
-        bytes.extend((if odd { self.p as u16 } else { 0 }).to_be_bytes());
+        bytes.extend(lengths.to_be_bytes());
         bytes.push(if odd { 0x80 + 33 } else { 0x80 });
         bytes.extend([0, 0, 0]);
         bytes.extend(timestamps.to_be_bytes());

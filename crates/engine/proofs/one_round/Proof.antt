@@ -1,24 +1,22 @@
 -- `engine::one_round` meets its contract: each return is a way through `round`. Assumes nothing.
 use mathlib.Core.Path.{_≡_, refl, sym, ap, subst, _∙_}
 use mathlib.Core.List.{List}
-use Prim.Native.Nat.{ℕ, _+_, _*_}
+use Prim.Native.Nat.{ℕ, _+_, _*_, _≤_}
 use lib.ListN.{length}
-use Rattle.window.specs.declared.Record.{Record}
-use Rattle.window.specs.Plain.{Inside}
-use Rattle.table.specs.View.{hand, itAt, slotAt}
-use Rattle.table.specs.Laws.{length-same}
+use borrow.Author.Tests.{not-true, not-false}
+use Rattle.table.specs.View.{hand}
 use Rattle.table.specs.Apart.{alike-length}
 use Rattle.group.proofs.Rows.{row-ends}
 use Rattle.engine.specs.Round.{Parts}
-use Rattle.engine.proofs.Rounds.{none-found, row-inside, row-low, missing-here, low-now, room-now, one-found}
+use Rattle.engine.proofs.Rounds.{none-found, row-inside, row-low, size-low, missing-here, spoilt-found, low-now, room-now, one-found}
 use native.Mathlib.Omega.{arith}
 use borrow.Author.Needs.{needs}
 use Rattle.engine.proofs.one_round.Statement.{statement}
 use Rattle.engine.proofs.one_round.Tie as tie
 
 -- the parts at entry
-abbrev parts : (media timestamps marks parity rows : List ℕ) → Parts
-parts media timestamps marks parity rows = record { media = media; timestamps = timestamps; marks = marks; parity = parity; rows = hand rows }
+abbrev parts : (media timestamps lengths marks parity rows : List ℕ) → Parts
+parts media timestamps lengths marks parity rows = record { media = media; timestamps = timestamps; lengths = lengths; marks = marks; parity = parity; rows = hand rows }
 
 next-ready-requires : tie.Need-next-ready-requires
 next-ready-requires c κs = search needs
@@ -28,13 +26,8 @@ same-length c = search needs
 
 returns : tie.Need-returns
 returns c =
-    let the-args = c .before .before .before .before .before .before .before .before .args in
-    let the-good = c .before .before .before .before .before .before .before .before .good in
-    let the-pre = c .before .before .before .before .before .before .before .before .pre in
-    let the-next-ready = c .before .next-ready in
-    let the-if1 = c .if1 in
-    let x = parts (the-args .media .now) (the-args .timestamps .now) (the-args .marks .now) (the-args .parity .now) (the-args .rows .now) in
-    none-found (the-args .w) (omega (arith, the-good)) x (the-pre .0) (the-args .m) (the-pre .1) (the-next-ready .result) (the-next-ready .ensures) (the-if1 .taken)
+    let a = c .before .before .before .before .before .before .before .before .before .args in
+    none-found (a .w) (omega (arith, c .before .before .before .before .before .before .before .before .before .good)) (parts (a .media .now) (a .timestamps .now) (a .lengths .now) (a .marks .now) (a .parity .now) (a .rows .now)) (c .before .before .before .before .before .before .before .before .before .pre .0) (a .m) (c .before .before .before .before .before .before .before .before .before .pre .1) (c .before .next-ready .result) (c .before .next-ready .ensures) (c .if1 .taken)
 
 record-at-requires : tie.Need-record-at-requires
 record-at-requires c κs = search needs
@@ -44,86 +37,45 @@ slot-at-requires c κs = search needs
 
 first-missing-requires : tie.Need-first-missing-requires
 first-missing-requires c κs =
-    let the-args = c .before .before .before .before .before .before .before .before .before .before .before .before .before .args in
-    let the-pre = c .before .before .before .before .before .before .before .before .before .before .before .before .before .pre in
-    let the-good = c .before .before .before .before .before .before .before .before .before .before .before .before .before .good in
-    let the-next-ready = c .before .before .before .before .before .before .next-ready in
-    let the-if1 = c .before .before .before .before .before .if1 in
-    let the-record-at = c .before .before .before .record-at in
-    let the-slot-at = c .before .slot-at in
-    let x = parts (the-args .media .now) (the-args .timestamps .now) (the-args .marks .now) (the-args .parity .now) (the-args .rows .now) in
-    (the-pre .0 .set-up, row-inside (the-args .w) (omega (arith, the-good)) x (the-pre .0) (the-args .m) (the-pre .1) (the-next-ready .result) (the-next-ready .ensures) (the-if1 .left) (the-record-at .result) (the-record-at .ensures) (the-slot-at .result) (the-slot-at .ensures), the-pre .0 .marks-long)
+    let a = c .before .before .before .before .before .before .before .before .before .before .before .before .before .before .args in
+    let x = parts (a .media .now) (a .timestamps .now) (a .lengths .now) (a .marks .now) (a .parity .now) (a .rows .now) in
+    (c .before .before .before .before .before .before .before .before .before .before .before .before .before .before .pre .0 .set-up, row-inside (a .w) (omega (arith, c .before .before .before .before .before .before .before .before .before .before .before .before .before .before .good)) x (c .before .before .before .before .before .before .before .before .before .before .before .before .before .before .pre .0) (a .m) (c .before .before .before .before .before .before .before .before .before .before .before .before .before .before .pre .1) (c .before .before .before .before .before .before .next-ready .result) (c .before .before .before .before .before .before .next-ready .ensures) (c .before .before .before .before .before .if1 .left) (c .before .before .before .record-at .result) (c .before .before .before .record-at .ensures) (c .before .slot-at .result) (c .before .slot-at .ensures), c .before .before .before .before .before .before .before .before .before .before .before .before .before .before .pre .0 .marks-long)
+
+wide-requires : tie.Need-wide-requires
+wide-requires c κs = search needs
 
 mul-rebuild-at : tie.Need-mul-rebuild-at
 mul-rebuild-at c =
-    let the-args = c .before .before .before .before .before .before .before .before .before .before .before .before .before .before .before .args in
-    let the-slot-at = c .before .before .before .slot-at in
-    let the-good = c .before .before .before .before .before .before .before .before .before .before .before .before .before .before .before .good in
-    let the-pre = c .before .before .before .before .before .before .before .before .before .before .before .before .before .before .before .pre in
-    let the-next-ready = c .before .before .before .before .before .before .before .before .next-ready in
-    let the-if1 = c .before .before .before .before .before .before .before .if1 in
-    let the-record-at = c .before .before .before .before .before .record-at in
-    let x = parts (the-args .media .now) (the-args .timestamps .now) (the-args .marks .now) (the-args .parity .now) (the-args .rows .now) in
-    omega (arith, row-ends (the-slot-at .result) (the-args .w .k) (the-args .w .p) _ (row-low (the-args .w) (omega (arith, the-good)) x (the-pre .0) (the-args .m) (the-pre .1) (the-next-ready .result) (the-next-ready .ensures) (the-if1 .left) (the-record-at .result) (the-record-at .ensures) (the-slot-at .result) (the-slot-at .ensures)) (the-pre .0 .parity-long), the-good)
+    let a = c .before .before .before .before .before .before .before .before .before .before .before .before .before .before .before .before .before .args in
+    let x = parts (a .media .now) (a .timestamps .now) (a .lengths .now) (a .marks .now) (a .parity .now) (a .rows .now) in
+    omega (arith, row-ends (c .before .before .before .before .slot-at .result) (a .w .k) (a .w .p) _ (row-low (a .w) (omega (arith, c .before .before .before .before .before .before .before .before .before .before .before .before .before .before .before .before .before .good)) x (c .before .before .before .before .before .before .before .before .before .before .before .before .before .before .before .before .before .pre .0) (a .m) (c .before .before .before .before .before .before .before .before .before .before .before .before .before .before .before .before .before .pre .1) (c .before .before .before .before .before .before .before .before .before .next-ready .result) (c .before .before .before .before .before .before .before .before .before .next-ready .ensures) (c .before .before .before .before .before .before .before .before .if1 .left) (c .before .before .before .before .before .before .record-at .result) (c .before .before .before .before .before .before .record-at .ensures) (c .before .before .before .before .slot-at .result) (c .before .before .before .before .slot-at .ensures)) (c .before .before .before .before .before .before .before .before .before .before .before .before .before .before .before .before .before .pre .0 .parity-long), c .before .before .before .before .before .before .before .before .before .before .before .before .before .before .before .before .before .good)
 
 rebuild-at-requires : tie.Need-rebuild-at-requires
 rebuild-at-requires c κs =
-    let the-args = c .before .before .before .before .before .before .before .before .before .before .before .before .before .before .before .before .before .before .args in
-    let the-pre = c .before .before .before .before .before .before .before .before .before .before .before .before .before .before .before .before .before .before .pre in
-    let the-good = c .before .before .before .before .before .before .before .before .before .before .before .before .before .before .before .before .before .before .good in
-    let the-next-ready = c .before .before .before .before .before .before .before .before .before .before .before .next-ready in
-    let the-if1 = c .before .before .before .before .before .before .before .before .before .before .if1 in
-    let the-record-at = c .before .before .before .before .before .before .before .before .record-at in
-    let the-slot-at = c .before .before .before .before .before .before .slot-at in
-    let the-first-missing = c .before .before .before .before .first-missing in
-    let x = parts (the-args .media .now) (the-args .timestamps .now) (the-args .marks .now) (the-args .parity .now) (the-args .rows .now) in (
-      the-pre .0 .set-up,
-      row-inside (the-args .w) (omega (arith, the-good)) x (the-pre .0) (the-args .m) (the-pre .1) (the-next-ready .result) (the-next-ready .ensures) (the-if1 .left) (the-record-at .result) (the-record-at .ensures) (the-slot-at .result) (the-slot-at .ensures),
-      missing-here (the-args .w) (omega (arith, the-good)) x (the-pre .0) (the-args .m) (the-pre .1) (the-next-ready .result) (the-next-ready .ensures) (the-if1 .left) (the-record-at .result) (the-record-at .ensures) (the-slot-at .result) (the-slot-at .ensures) (the-first-missing .result) (the-first-missing .ensures) .0,
-      row-ends (the-slot-at .result) (the-args .w .k) (the-args .w .p) _ (row-low (the-args .w) (omega (arith, the-good)) x (the-pre .0) (the-args .m) (the-pre .1) (the-next-ready .result) (the-next-ready .ensures) (the-if1 .left) (the-record-at .result) (the-record-at .ensures) (the-slot-at .result) (the-slot-at .ensures)) (the-pre .0 .parity-long),
-      the-pre .0 .media-long,
-      the-pre .0 .timestamps-long,
-      the-pre .0 .marks-long,
+    let a = c .before .before .before .before .before .before .before .before .before .before .before .before .before .before .before .before .before .before .before .before .before .args in
+    let x = parts (a .media .now) (a .timestamps .now) (a .lengths .now) (a .marks .now) (a .parity .now) (a .rows .now) in
+    let low = size-low (a .w) (omega (arith, c .before .before .before .before .before .before .before .before .before .before .before .before .before .before .before .before .before .before .before .before .before .good)) x (c .before .before .before .before .before .before .before .before .before .before .before .before .before .before .before .before .before .before .before .before .before .pre .0) (a .m) (c .before .before .before .before .before .before .before .before .before .before .before .before .before .before .before .before .before .before .before .before .before .pre .1) (c .before .before .before .before .before .before .before .before .before .before .before .before .before .next-ready .result) (c .before .before .before .before .before .before .before .before .before .before .before .before .before .next-ready .ensures) (c .before .before .before .before .before .before .before .before .before .before .before .before .if1 .left) (c .before .before .before .before .before .before .before .before .before .before .record-at .result) (c .before .before .before .before .before .before .before .before .before .before .record-at .ensures) (c .before .before .before .before .before .before .before .before .slot-at .result) (c .before .before .before .before .before .before .before .before .slot-at .ensures) in
+    let ends = row-ends (c .before .before .before .before .before .before .before .before .slot-at .result) (a .w .k) (a .w .p) _ (row-low (a .w) (omega (arith, c .before .before .before .before .before .before .before .before .before .before .before .before .before .before .before .before .before .before .before .before .before .good)) x (c .before .before .before .before .before .before .before .before .before .before .before .before .before .before .before .before .before .before .before .before .before .pre .0) (a .m) (c .before .before .before .before .before .before .before .before .before .before .before .before .before .before .before .before .before .before .before .before .before .pre .1) (c .before .before .before .before .before .before .before .before .before .before .before .before .before .next-ready .result) (c .before .before .before .before .before .before .before .before .before .before .before .before .before .next-ready .ensures) (c .before .before .before .before .before .before .before .before .before .before .before .before .if1 .left) (c .before .before .before .before .before .before .before .before .before .before .record-at .result) (c .before .before .before .before .before .before .before .before .before .before .record-at .ensures) (c .before .before .before .before .before .before .before .before .slot-at .result) (c .before .before .before .before .before .before .before .before .slot-at .ensures)) (c .before .before .before .before .before .before .before .before .before .before .before .before .before .before .before .before .before .before .before .before .before .pre .0 .parity-long) in
+    let size = c .before .before .before .before .before .wide .ensures .0 in (
+      c .before .before .before .before .before .before .before .before .before .before .before .before .before .before .before .before .before .before .before .before .before .pre .0 .set-up,
+      row-inside (a .w) (omega (arith, c .before .before .before .before .before .before .before .before .before .before .before .before .before .before .before .before .before .before .before .before .before .good)) x (c .before .before .before .before .before .before .before .before .before .before .before .before .before .before .before .before .before .before .before .before .before .pre .0) (a .m) (c .before .before .before .before .before .before .before .before .before .before .before .before .before .before .before .before .before .before .before .before .before .pre .1) (c .before .before .before .before .before .before .before .before .before .before .before .before .before .next-ready .result) (c .before .before .before .before .before .before .before .before .before .before .before .before .before .next-ready .ensures) (c .before .before .before .before .before .before .before .before .before .before .before .before .if1 .left) (c .before .before .before .before .before .before .before .before .before .before .record-at .result) (c .before .before .before .before .before .before .before .before .before .before .record-at .ensures) (c .before .before .before .before .before .before .before .before .slot-at .result) (c .before .before .before .before .before .before .before .before .slot-at .ensures),
+      missing-here (a .w) (omega (arith, c .before .before .before .before .before .before .before .before .before .before .before .before .before .before .before .before .before .before .before .before .before .good)) x (c .before .before .before .before .before .before .before .before .before .before .before .before .before .before .before .before .before .before .before .before .before .pre .0) (a .m) (c .before .before .before .before .before .before .before .before .before .before .before .before .before .before .before .before .before .before .before .before .before .pre .1) (c .before .before .before .before .before .before .before .before .before .before .before .before .before .next-ready .result) (c .before .before .before .before .before .before .before .before .before .before .before .before .before .next-ready .ensures) (c .before .before .before .before .before .before .before .before .before .before .before .before .if1 .left) (c .before .before .before .before .before .before .before .before .before .before .record-at .result) (c .before .before .before .before .before .before .before .before .before .before .record-at .ensures) (c .before .before .before .before .before .before .before .before .slot-at .result) (c .before .before .before .before .before .before .before .before .slot-at .ensures) (c .before .before .before .before .before .before .first-missing .result) (c .before .before .before .before .before .before .first-missing .ensures) .0,
+      omega (arith, low, size),
+      omega (arith, low, size, ends),
+      c .before .before .before .before .before .before .before .before .before .before .before .before .before .before .before .before .before .before .before .before .before .pre .0 .media-long,
+      c .before .before .before .before .before .before .before .before .before .before .before .before .before .before .before .before .before .before .before .before .before .pre .0 .timestamps-long,
+      c .before .before .before .before .before .before .before .before .before .before .before .before .before .before .before .before .before .before .before .before .before .pre .0 .lengths-long,
+      c .before .before .before .before .before .before .before .before .before .before .before .before .before .before .before .before .before .before .before .before .before .pre .0 .marks-long,
     )
 
-lower-requires : tie.Need-lower-requires
-lower-requires c κs =
-    let the-pre = c .before .before .before .before .before .before .before .before .before .before .before .before .before .before .before .before .before .before .before .before .before .before .before .before .before .before .pre in
-    (the-pre .0 .set-up, the-pre .1)
-
-add-recounted : tie.Need-add-recounted
-add-recounted c =
-    let the-pre = c .before .before .before .before .before .before .before .before .before .before .before .before .before .before .before .before .before .before .before .before .before .before .before .before .before .before .before .before .before .before .pre in
-    omega (arith, the-pre .2)
-
-recounted-requires : tie.Need-recounted-requires
-recounted-requires c κs = search needs
-
-release-all-requires : tie.Need-release-all-requires
-release-all-requires c κs =
-    let the-args = c .before .before .before .before .before .before .before .before .before .before .before .before .before .before .before .before .before .before .before .before .before .before .before .before .before .before .before .before .before .before .before .before .before .args in
-    let the-lower = c .before .before .before .before .before .before .lower in
-    let the-pre = c .before .before .before .before .before .before .before .before .before .before .before .before .before .before .before .before .before .before .before .before .before .before .before .before .before .before .before .before .before .before .before .before .before .pre in
-    let the-good = c .before .before .before .before .before .before .before .before .before .before .before .before .before .before .before .before .before .before .before .before .before .before .before .before .before .before .before .before .before .before .before .before .before .good in
-    let the-next-ready = c .before .before .before .before .before .before .before .before .before .before .before .before .before .before .before .before .before .before .before .before .before .before .before .before .before .before .next-ready in
-    let the-if1 = c .before .before .before .before .before .before .before .before .before .before .before .before .before .before .before .before .before .before .before .before .before .before .before .before .before .if1 in
-    let the-record-at = c .before .before .before .before .before .before .before .before .before .before .before .before .before .before .before .before .before .before .before .before .before .before .before .record-at in
-    let the-slot-at = c .before .before .before .before .before .before .before .before .before .before .before .before .before .before .before .before .before .before .before .before .before .slot-at in
-    let the-first-missing = c .before .before .before .before .before .before .before .before .before .before .before .before .before .before .before .before .before .before .before .first-missing in
-    let the-rebuild-at = c .before .before .before .before .before .before .before .before .before .before .before .before .before .before .rebuild-at in
-    let the-recounted = c .before .before .recounted in
-    let x = parts (the-args .media .now) (the-args .timestamps .now) (the-args .marks .now) (the-args .parity .now) (the-args .rows .now) in (
-      alike-length (the-lower .ensures .alike) ∙ the-pre .1,
-      low-now (the-args .w) (omega (arith, the-good)) x (the-pre .0) (the-args .m) (the-pre .1) (the-next-ready .result) (the-next-ready .ensures) (the-if1 .left) (the-record-at .result) (the-record-at .ensures) (the-slot-at .result) (the-slot-at .ensures) (the-first-missing .result) (the-first-missing .ensures) _ _ _ (the-rebuild-at .ensures .0) (the-rebuild-at .ensures .1) (the-rebuild-at .ensures .2) _ (the-lower .ensures) (the-recounted .result) (the-recounted .ensures),
-      room-now (the-args .w) (omega (arith, the-good)) x (the-pre .0) (the-args .m) (the-pre .1) (the-next-ready .result) (the-next-ready .ensures) (the-if1 .left) (the-record-at .result) (the-record-at .ensures) (the-slot-at .result) (the-slot-at .ensures) (the-first-missing .result) (the-first-missing .ensures) _ _ _ (the-rebuild-at .ensures .0) (the-rebuild-at .ensures .1) (the-rebuild-at .ensures .2) _ (the-lower .ensures) (the-recounted .result) (the-recounted .ensures),
-    )
+free-row-requires : tie.Need-free-row-requires
+free-row-requires c κs =
+    let a = c .before .before .before .before .before .before .before .before .before .before .before .before .before .before .before .before .before .before .before .before .before .before .before .before .before .before .before .before .before .before .before .before .before .args in
+    let x = parts (a .media .now) (a .timestamps .now) (a .lengths .now) (a .marks .now) (a .parity .now) (a .rows .now) in
+    (omega (arith, c .before .before .before .before .before .before .before .before .before .before .before .before .before .before .before .before .before .before .before .before .before .before .before .before .before .before .before .before .before .before .before .before .before .pre .1, c .before .before .before .before .before .before .before .before .before .before .before .before .before .before .before .before .before .before .before .before .before .before .before .before .if1 .left), rw (← c .before .before .before .before .before .before .before .before .before .before .before .before .before .before .before .before .before .before .before .before .slot-at .ensures) (row-low (a .w) (omega (arith, c .before .before .before .before .before .before .before .before .before .before .before .before .before .before .before .before .before .before .before .before .before .before .before .before .before .before .before .before .before .before .before .before .before .good)) x (c .before .before .before .before .before .before .before .before .before .before .before .before .before .before .before .before .before .before .before .before .before .before .before .before .before .before .before .before .before .before .before .before .before .pre .0) (a .m) (c .before .before .before .before .before .before .before .before .before .before .before .before .before .before .before .before .before .before .before .before .before .before .before .before .before .before .before .before .before .before .before .before .before .pre .1) (c .before .before .before .before .before .before .before .before .before .before .before .before .before .before .before .before .before .before .before .before .before .before .before .before .before .next-ready .result) (c .before .before .before .before .before .before .before .before .before .before .before .before .before .before .before .before .before .before .before .before .before .before .before .before .before .next-ready .ensures) (c .before .before .before .before .before .before .before .before .before .before .before .before .before .before .before .before .before .before .before .before .before .before .before .before .if1 .left) (c .before .before .before .before .before .before .before .before .before .before .before .before .before .before .before .before .before .before .before .before .before .before .record-at .result) (c .before .before .before .before .before .before .before .before .before .before .before .before .before .before .before .before .before .before .before .before .before .before .record-at .ensures) (c .before .before .before .before .before .before .before .before .before .before .before .before .before .before .before .before .before .before .before .before .slot-at .result) (c .before .before .before .before .before .before .before .before .before .before .before .before .before .before .before .before .before .before .before .before .slot-at .ensures)), c .before .before .before .before .before .before .before .before .before .before .before .before .before .before .before .before .before .before .before .before .before .before .before .before .before .before .before .before .before .before .before .before .before .pre .0 .parity-long)
 
 same-length-2 : tie.Need-same-length-2
-same-length-2 c =
-    let the-rebuild-at = c .before .before .before .before .before .before .before .before .before .before .before .before .before .before .before .before .before .before .before .rebuild-at in
-    let the-lower = c .before .before .before .before .before .before .before .before .before .before .before .lower in
-    let the-release-all = c .before .before .before .before .release-all in
-    omega (arith, the-rebuild-at .kept, the-lower .kept, the-release-all .kept)
+same-length-2 c = search needs
 
 same-length-3 : tie.Need-same-length-3
 same-length-3 c = search needs
@@ -137,22 +89,90 @@ same-length-5 c = search needs
 same-length-6 : tie.Need-same-length-6
 same-length-6 c = search needs
 
+same-length-7 : tie.Need-same-length-7
+same-length-7 c = search needs
+
 returns-2 : tie.Need-returns-2
 returns-2 c =
-    let the-args = c .before .before .before .before .before .before .before .before .before .before .before .before .before .before .before .before .before .before .before .before .before .before .before .before .before .before .before .before .before .before .before .before .before .before .before .before .before .before .args in
-    let the-good = c .before .before .before .before .before .before .before .before .before .before .before .before .before .before .before .before .before .before .before .before .before .before .before .before .before .before .before .before .before .before .before .before .before .before .before .before .before .before .good in
-    let the-pre = c .before .before .before .before .before .before .before .before .before .before .before .before .before .before .before .before .before .before .before .before .before .before .before .before .before .before .before .before .before .before .before .before .before .before .before .before .before .before .pre in
-    let the-next-ready = c .before .before .before .before .before .before .before .before .before .before .before .before .before .before .before .before .before .before .before .before .before .before .before .before .before .before .before .before .before .before .before .next-ready in
-    let the-if1 = c .before .before .before .before .before .before .before .before .before .before .before .before .before .before .before .before .before .before .before .before .before .before .before .before .before .before .before .before .before .before .if1 in
-    let the-record-at = c .before .before .before .before .before .before .before .before .before .before .before .before .before .before .before .before .before .before .before .before .before .before .before .before .before .before .before .before .record-at in
-    let the-slot-at = c .before .before .before .before .before .before .before .before .before .before .before .before .before .before .before .before .before .before .before .before .before .before .before .before .before .before .slot-at in
-    let the-first-missing = c .before .before .before .before .before .before .before .before .before .before .before .before .before .before .before .before .before .before .before .before .before .before .before .before .first-missing in
-    let the-rebuild-at = c .before .before .before .before .before .before .before .before .before .before .before .before .before .before .before .before .before .before .before .rebuild-at in
-    let the-lower = c .before .before .before .before .before .before .before .before .before .before .before .lower in
-    let the-recounted = c .before .before .before .before .before .before .before .recounted in
-    let the-release-all = c .before .before .before .before .release-all in
-    let x = parts (the-args .media .now) (the-args .timestamps .now) (the-args .marks .now) (the-args .parity .now) (the-args .rows .now) in
-    one-found (the-args .w) (omega (arith, the-good)) x (the-pre .0) (the-args .m) (the-pre .1) (the-next-ready .result) (the-next-ready .ensures) (the-if1 .left) (the-record-at .result) (the-record-at .ensures) (the-slot-at .result) (the-slot-at .ensures) (the-first-missing .result) (the-first-missing .ensures) _ _ _ (the-rebuild-at .ensures .0) (the-rebuild-at .ensures .1) (the-rebuild-at .ensures .2) _ (the-lower .ensures) (the-recounted .result) (the-recounted .ensures) (the-release-all .result) _ _ (the-release-all .ensures) (omega (arith, the-rebuild-at .kept)) (omega (arith, the-rebuild-at .kept))
+    let a = c .before .before .before .before .before .before .before .before .before .before .before .before .before .before .before .before .before .before .before .before .before .before .before .before .before .before .before .before .before .before .before .before .before .before .before .before .before .before .args in
+    let x = parts (a .media .now) (a .timestamps .now) (a .lengths .now) (a .marks .now) (a .parity .now) (a .rows .now) in
+    let v = c .before .before .before .before .before .before .before .before .before .before .before .before .before .before .before .before .before .before .before .before .before .before .before .before .before .before .before .record-at .result in
+    spoilt-found (a .w) (omega (arith, c .before .before .before .before .before .before .before .before .before .before .before .before .before .before .before .before .before .before .before .before .before .before .before .before .before .before .before .before .before .before .before .before .before .before .before .before .before .before .good)) x (c .before .before .before .before .before .before .before .before .before .before .before .before .before .before .before .before .before .before .before .before .before .before .before .before .before .before .before .before .before .before .before .before .before .before .before .before .before .before .pre .0) (a .m) (c .before .before .before .before .before .before .before .before .before .before .before .before .before .before .before .before .before .before .before .before .before .before .before .before .before .before .before .before .before .before .before .before .before .before .before .before .before .before .pre .1) (c .before .before .before .before .before .before .before .before .before .before .before .before .before .before .before .before .before .before .before .before .before .before .before .before .before .before .before .before .before .before .next-ready .result) (c .before .before .before .before .before .before .before .before .before .before .before .before .before .before .before .before .before .before .before .before .before .before .before .before .before .before .before .before .before .before .next-ready .ensures) (c .before .before .before .before .before .before .before .before .before .before .before .before .before .before .before .before .before .before .before .before .before .before .before .before .before .before .before .before .before .if1 .left) v (c .before .before .before .before .before .before .before .before .before .before .before .before .before .before .before .before .before .before .before .before .before .before .before .before .before .before .before .record-at .ensures) (c .before .before .before .before .before .before .before .before .before .before .before .before .before .before .before .before .before .before .before .before .before .before .before .before .before .slot-at .result) (c .before .before .before .before .before .before .before .before .before .before .before .before .before .before .before .before .before .before .before .before .before .before .before .before .before .slot-at .ensures) (c .before .before .before .before .before .before .before .before .before .before .before .before .before .before .before .before .before .before .before .before .before .before .before .first-missing .result) (c .before .before .before .before .before .before .before .before .before .before .before .before .before .before .before .before .before .before .before .before .before .before .before .first-missing .ensures) _ _ _ _ (c .before .before .before .before .before .before .before .before .before .before .before .before .before .before .before .before .rebuild-at .result) (c .before .before .before .before .before .before .before .before .before .before .before .before .before .before .before .before .before .before .before .before .before .before .wide .result) (c .before .before .before .before .before .before .before .before .before .before .before .before .before .before .before .before .before .before .before .before .before .before .wide .ensures .0) (c .before .before .before .before .before .before .before .before .before .before .before .before .before .before .before .before .rebuild-at .ensures) (not-true (c .before .before .before .before .before .before .before .before .before .before .before .before .before .before .before .before .rebuild-at .result) (c .before .before .before .before .before .before .before .if2 .taken)) (c .before .before .before .before .free-row .result) _ _ (c .before .before .before .before .free-row .ensures)
+
+lower-requires : tie.Need-lower-requires
+lower-requires c κs = (c .before .before .before .before .before .before .before .before .before .before .before .before .before .before .before .before .before .before .before .before .before .before .before .before .before .before .before .before .before .before .before .before .pre .0 .set-up, c .before .before .before .before .before .before .before .before .before .before .before .before .before .before .before .before .before .before .before .before .before .before .before .before .before .before .before .before .before .before .before .before .pre .1)
+
+add-recounted : tie.Need-add-recounted
+add-recounted c = omega (arith, c .before .before .before .before .before .before .before .before .before .before .before .before .before .before .before .before .before .before .before .before .before .before .before .before .before .before .before .before .before .before .before .before .before .before .before .before .pre .2)
+
+recounted-requires : tie.Need-recounted-requires
+recounted-requires c κs = search needs
+
+release-all-requires : tie.Need-release-all-requires
+release-all-requires c κs =
+    let a = c .before .before .before .before .before .before .before .before .before .before .before .before .before .before .before .before .before .before .before .before .before .before .before .before .before .before .before .before .before .before .before .before .before .before .before .before .before .before .before .args in
+    let x = parts (a .media .now) (a .timestamps .now) (a .lengths .now) (a .marks .now) (a .parity .now) (a .rows .now) in
+    let v = c .before .before .before .before .before .before .before .before .before .before .before .before .before .before .before .before .before .before .before .before .before .before .before .before .before .before .before .before .record-at .result in
+    let fit = not-false (c .before .before .before .before .before .before .before .before .before .before .before .before .before .before .before .before .before .rebuild-at .result) (c .before .before .before .before .before .before .before .before .if2 .left) in (
+      alike-length (c .before .before .before .before .before .before .lower .ensures .alike) ∙ c .before .before .before .before .before .before .before .before .before .before .before .before .before .before .before .before .before .before .before .before .before .before .before .before .before .before .before .before .before .before .before .before .before .before .before .before .before .before .before .pre .1,
+      low-now (a .w) (omega (arith, c .before .before .before .before .before .before .before .before .before .before .before .before .before .before .before .before .before .before .before .before .before .before .before .before .before .before .before .before .before .before .before .before .before .before .before .before .before .before .before .good)) x (c .before .before .before .before .before .before .before .before .before .before .before .before .before .before .before .before .before .before .before .before .before .before .before .before .before .before .before .before .before .before .before .before .before .before .before .before .before .before .before .pre .0) (a .m) (c .before .before .before .before .before .before .before .before .before .before .before .before .before .before .before .before .before .before .before .before .before .before .before .before .before .before .before .before .before .before .before .before .before .before .before .before .before .before .before .pre .1) (c .before .before .before .before .before .before .before .before .before .before .before .before .before .before .before .before .before .before .before .before .before .before .before .before .before .before .before .before .before .before .before .next-ready .result) (c .before .before .before .before .before .before .before .before .before .before .before .before .before .before .before .before .before .before .before .before .before .before .before .before .before .before .before .before .before .before .before .next-ready .ensures) (c .before .before .before .before .before .before .before .before .before .before .before .before .before .before .before .before .before .before .before .before .before .before .before .before .before .before .before .before .before .before .if1 .left) v (c .before .before .before .before .before .before .before .before .before .before .before .before .before .before .before .before .before .before .before .before .before .before .before .before .before .before .before .before .record-at .ensures) (c .before .before .before .before .before .before .before .before .before .before .before .before .before .before .before .before .before .before .before .before .before .before .before .before .before .before .slot-at .result) (c .before .before .before .before .before .before .before .before .before .before .before .before .before .before .before .before .before .before .before .before .before .before .before .before .before .before .slot-at .ensures) (c .before .before .before .before .before .before .before .before .before .before .before .before .before .before .before .before .before .before .before .before .before .before .before .before .first-missing .result) (c .before .before .before .before .before .before .before .before .before .before .before .before .before .before .before .before .before .before .before .before .before .before .before .before .first-missing .ensures) _ _ _ _ (c .before .before .before .before .before .before .before .before .before .before .before .before .before .before .before .before .before .rebuild-at .result) (c .before .before .before .before .before .before .before .before .before .before .before .before .before .before .before .before .before .before .before .before .before .before .before .wide .result) (c .before .before .before .before .before .before .before .before .before .before .before .before .before .before .before .before .before .before .before .before .before .before .before .wide .ensures .0) (c .before .before .before .before .before .before .before .before .before .before .before .before .before .before .before .before .before .rebuild-at .ensures) fit _ (c .before .before .before .before .before .before .lower .ensures) (c .before .before .recounted .result) (c .before .before .recounted .ensures),
+      room-now (a .w) (omega (arith, c .before .before .before .before .before .before .before .before .before .before .before .before .before .before .before .before .before .before .before .before .before .before .before .before .before .before .before .before .before .before .before .before .before .before .before .before .before .before .before .good)) x (c .before .before .before .before .before .before .before .before .before .before .before .before .before .before .before .before .before .before .before .before .before .before .before .before .before .before .before .before .before .before .before .before .before .before .before .before .before .before .before .pre .0) (a .m) (c .before .before .before .before .before .before .before .before .before .before .before .before .before .before .before .before .before .before .before .before .before .before .before .before .before .before .before .before .before .before .before .before .before .before .before .before .before .before .before .pre .1) (c .before .before .before .before .before .before .before .before .before .before .before .before .before .before .before .before .before .before .before .before .before .before .before .before .before .before .before .before .before .before .before .next-ready .result) (c .before .before .before .before .before .before .before .before .before .before .before .before .before .before .before .before .before .before .before .before .before .before .before .before .before .before .before .before .before .before .before .next-ready .ensures) (c .before .before .before .before .before .before .before .before .before .before .before .before .before .before .before .before .before .before .before .before .before .before .before .before .before .before .before .before .before .before .if1 .left) v (c .before .before .before .before .before .before .before .before .before .before .before .before .before .before .before .before .before .before .before .before .before .before .before .before .before .before .before .before .record-at .ensures) (c .before .before .before .before .before .before .before .before .before .before .before .before .before .before .before .before .before .before .before .before .before .before .before .before .before .before .slot-at .result) (c .before .before .before .before .before .before .before .before .before .before .before .before .before .before .before .before .before .before .before .before .before .before .before .before .before .before .slot-at .ensures) (c .before .before .before .before .before .before .before .before .before .before .before .before .before .before .before .before .before .before .before .before .before .before .before .before .first-missing .result) (c .before .before .before .before .before .before .before .before .before .before .before .before .before .before .before .before .before .before .before .before .before .before .before .before .first-missing .ensures) _ _ _ _ (c .before .before .before .before .before .before .before .before .before .before .before .before .before .before .before .before .before .rebuild-at .result) (c .before .before .before .before .before .before .before .before .before .before .before .before .before .before .before .before .before .before .before .before .before .before .before .wide .result) (c .before .before .before .before .before .before .before .before .before .before .before .before .before .before .before .before .before .before .before .before .before .before .before .wide .ensures .0) (c .before .before .before .before .before .before .before .before .before .before .before .before .before .before .before .before .before .rebuild-at .ensures) fit _ (c .before .before .before .before .before .before .lower .ensures) (c .before .before .recounted .result) (c .before .before .recounted .ensures),
+    )
+
+same-length-8 : tie.Need-same-length-8
+same-length-8 c = omega (arith, c .before .before .before .before .before .before .before .before .before .before .before .before .before .before .before .before .before .before .before .before .before .before .rebuild-at .kept, c .before .before .before .before .before .before .before .before .before .before .before .lower .kept, c .before .before .before .before .release-all .kept)
+
+same-length-9 : tie.Need-same-length-9
+same-length-9 c = omega (arith, c .before .before .before .before .before .before .before .before .before .before .before .before .before .before .before .before .before .before .before .before .before .before .rebuild-at .kept, c .before .before .before .before .before .before .before .before .before .before .before .lower .kept, c .before .before .before .before .release-all .kept)
+
+same-length-10 : tie.Need-same-length-10
+same-length-10 c = omega (arith, c .before .before .before .before .before .before .before .before .before .before .before .before .before .before .before .before .before .before .before .before .before .before .rebuild-at .kept, c .before .before .before .before .before .before .before .before .before .before .before .lower .kept, c .before .before .before .before .release-all .kept)
+
+same-length-11 : tie.Need-same-length-11
+same-length-11 c = search needs
+
+same-length-12 : tie.Need-same-length-12
+same-length-12 c = search needs
+
+same-length-13 : tie.Need-same-length-13
+same-length-13 c = search needs
+
+returns-3 : tie.Need-returns-3
+returns-3 c =
+    let a = c .before .before .before .before .before .before .before .before .before .before .before .before .before .before .before .before .before .before .before .before .before .before .before .before .before .before .before .before .before .before .before .before .before .before .before .before .before .before .before .before .before .before .before .before .args in
+    let x = parts (a .media .now) (a .timestamps .now) (a .lengths .now) (a .marks .now) (a .parity .now) (a .rows .now) in
+    let v = c .before .before .before .before .before .before .before .before .before .before .before .before .before .before .before .before .before .before .before .before .before .before .before .before .before .before .before .before .before .before .before .before .before .record-at .result in
+    one-found (a .w) (omega (arith, c .before .before .before .before .before .before .before .before .before .before .before .before .before .before .before .before .before .before .before .before .before .before .before .before .before .before .before .before .before .before .before .before .before .before .before .before .before .before .before .before .before .before .before .before .good)) x (c .before .before .before .before .before .before .before .before .before .before .before .before .before .before .before .before .before .before .before .before .before .before .before .before .before .before .before .before .before .before .before .before .before .before .before .before .before .before .before .before .before .before .before .before .pre .0) (a .m) (c .before .before .before .before .before .before .before .before .before .before .before .before .before .before .before .before .before .before .before .before .before .before .before .before .before .before .before .before .before .before .before .before .before .before .before .before .before .before .before .before .before .before .before .before .pre .1) (c .before .before .before .before .before .before .before .before .before .before .before .before .before .before .before .before .before .before .before .before .before .before .before .before .before .before .before .before .before .before .before .before .before .before .before .before .next-ready .result) (c .before .before .before .before .before .before .before .before .before .before .before .before .before .before .before .before .before .before .before .before .before .before .before .before .before .before .before .before .before .before .before .before .before .before .before .before .next-ready .ensures) (c .before .before .before .before .before .before .before .before .before .before .before .before .before .before .before .before .before .before .before .before .before .before .before .before .before .before .before .before .before .before .before .before .before .before .before .if1 .left) v (c .before .before .before .before .before .before .before .before .before .before .before .before .before .before .before .before .before .before .before .before .before .before .before .before .before .before .before .before .before .before .before .before .before .record-at .ensures) (c .before .before .before .before .before .before .before .before .before .before .before .before .before .before .before .before .before .before .before .before .before .before .before .before .before .before .before .before .before .before .before .slot-at .result) (c .before .before .before .before .before .before .before .before .before .before .before .before .before .before .before .before .before .before .before .before .before .before .before .before .before .before .before .before .before .before .before .slot-at .ensures) (c .before .before .before .before .before .before .before .before .before .before .before .before .before .before .before .before .before .before .before .before .before .before .before .before .before .before .before .before .before .first-missing .result) (c .before .before .before .before .before .before .before .before .before .before .before .before .before .before .before .before .before .before .before .before .before .before .before .before .before .before .before .before .before .first-missing .ensures) _ _ _ _ (c .before .before .before .before .before .before .before .before .before .before .before .before .before .before .before .before .before .before .before .before .before .before .rebuild-at .result) (c .before .before .before .before .before .before .before .before .before .before .before .before .before .before .before .before .before .before .before .before .before .before .before .before .before .before .before .before .wide .result) (c .before .before .before .before .before .before .before .before .before .before .before .before .before .before .before .before .before .before .before .before .before .before .before .before .before .before .before .before .wide .ensures .0) (c .before .before .before .before .before .before .before .before .before .before .before .before .before .before .before .before .before .before .before .before .before .before .rebuild-at .ensures) (not-false (c .before .before .before .before .before .before .before .before .before .before .before .before .before .before .before .before .before .before .before .before .before .before .rebuild-at .result) (c .before .before .before .before .before .before .before .before .before .before .before .before .before .if2 .left)) _ (c .before .before .before .before .before .before .before .before .before .before .before .lower .ensures) (c .before .before .before .before .before .before .before .recounted .result) (c .before .before .before .before .before .before .before .recounted .ensures) (c .before .before .before .before .release-all .result) _ _ (c .before .before .before .before .release-all .ensures) (omega (arith, c .before .before .before .before .before .before .before .before .before .before .before .before .before .before .before .before .before .before .before .before .before .before .rebuild-at .kept)) (omega (arith, c .before .before .before .before .before .before .before .before .before .before .before .before .before .before .before .before .before .before .before .before .before .before .rebuild-at .kept)) (omega (arith, c .before .before .before .before .before .before .before .before .before .before .before .before .before .before .before .before .before .before .before .before .before .before .rebuild-at .kept))
 
 pub one-round-spec : {M : Type 1} → statement M
-one-round-spec = tie.close (tie.spec next-ready-requires same-length returns record-at-requires slot-at-requires first-missing-requires mul-rebuild-at rebuild-at-requires lower-requires add-recounted recounted-requires release-all-requires same-length-2 same-length-3 same-length-4 same-length-5 same-length-6 returns-2)
+one-round-spec =
+    tie.close
+    (tie.spec
+    next-ready-requires
+    same-length
+    returns
+    record-at-requires
+    slot-at-requires
+    first-missing-requires
+    wide-requires
+    mul-rebuild-at
+    rebuild-at-requires
+    free-row-requires
+    same-length-2
+    same-length-3
+    same-length-4
+    same-length-5
+    same-length-6
+    same-length-7
+    returns-2
+    lower-requires
+    add-recounted
+    recounted-requires
+    release-all-requires
+    same-length-8
+    same-length-9
+    same-length-10
+    same-length-11
+    same-length-12
+    same-length-13
+    returns-3)

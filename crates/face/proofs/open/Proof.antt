@@ -4,7 +4,6 @@ use mathlib.Core.List.{List}
 use Rattle.window.specs.declared.Record.{Record}
 use Rattle.calls.specs.Call.{Outcome}
 use Rattle.face.specs.Reply.{replied}
-use native.Mathlib.Omega.{arith}
 use borrow.Author.Needs.{needs}
 use Rattle.face.proofs.open.Statement.{statement}
 use Rattle.face.proofs.open.Tie as tie
@@ -27,11 +26,21 @@ same-length-3 c = search needs
 same-length-4 : tie.Need-same-length-4
 same-length-4 c = search needs
 
+same-length-5 : tie.Need-same-length-5
+same-length-5 c = search needs
+
 returns : tie.Need-returns
-returns c =
-    let the-open = c .before .before .before .before .before .before .before .before .before .before .before .«open» in
-    let the-by-number = c .by-number in
-    (the-open .ensures .0, λ t e. rw (the-by-number .ensures) (ap replied (the-open .ensures .1 t e)))
+returns c = (c .before .before .before .before .before .before .before .before .before .before .before .before .before .«open» .ensures .0, λ t e. rw (c .by-number .ensures) (ap replied (c .before .before .before .before .before .before .before .before .before .before .before .before .before .«open» .ensures .1 t e)))
 
 pub open-spec : {M : Type 1} → statement M
-open-spec = tie.close (tie.spec open-requires by-number-requires same-length same-length-2 same-length-3 same-length-4 returns)
+open-spec =
+    tie.close
+    (tie.spec
+    open-requires
+    by-number-requires
+    same-length
+    same-length-2
+    same-length-3
+    same-length-4
+    same-length-5
+    returns)

@@ -3,7 +3,6 @@ use mathlib.Core.Path.{_≡_, refl, sym, ap, _∙_}
 use Rattle.rtp.specs.Fec.{column, row}
 use Rattle.calls.specs.Call.{readOut, wroteParity}
 use Rattle.face.proofs.Ways.{given}
-use native.Mathlib.Omega.{arith}
 use borrow.Author.Needs.{needs}
 use Rattle.face.proofs.write_column.Statement.{statement}
 use Rattle.face.proofs.write_column.Tie as tie
@@ -21,12 +20,8 @@ same-length-2 : tie.Need-same-length-2
 same-length-2 c = search needs
 
 returns : tie.Need-returns
-returns c =
-    let the-args = c .before .before .before .before .before .before .before .before .before .before .before .before .before .before .before .before .args in
-    let the-pre = c .before .before .before .before .before .before .before .before .before .before .before .before .before .before .before .before .pre in
-    let the-write-column = c .before .before .before .before .before .before .before .write-column in
-    let the-by-number = c .by-number in
-    given (wroteParity column (the-args .w) (the-args .snbase) (record { sequence = the-args .sequence; timestamp = the-args .timestamp; ssrc = the-args .ssrc })) (the-args .len) (the-args .w .k) (the-args .m) (the-args .media .now) (the-args .timestamps .now) (the-args .marks .now) (the-args .parity .now) (the-args .words .now) (the-args .out .now) _ the-pre (the-write-column .result) (the-write-column .ensures) (the-by-number .result) (the-by-number .ensures)
+returns c = given (wroteParity column (c .before .before .before .before .before .before .before .before .before .before .before .before .before .before .before .before .before .args .w) (c .before .before .before .before .before .before .before .before .before .before .before .before .before .before .before .before .before .args .snbase) (record { sequence = c .before .before .before .before .before .before .before .before .before .before .before .before .before .before .before .before .before .args .sequence; timestamp = c .before .before .before .before .before .before .before .before .before .before .before .before .before .before .before .before .before .args .timestamp; ssrc = c .before .before .before .before .before .before .before .before .before .before .before .before .before .before .before .before .before .args .ssrc })) (c .before .before .before .before .before .before .before .before .before .before .before .before .before .before .before .before .before .args .len) (c .before .before .before .before .before .before .before .before .before .before .before .before .before .before .before .before .before .args .w .k) (c .before .before .before .before .before .before .before .before .before .before .before .before .before .before .before .before .before .args .m) (c .before .before .before .before .before .before .before .before .before .before .before .before .before .before .before .before .before .args .media .now) (c .before .before .before .before .before .before .before .before .before .before .before .before .before .before .before .before .before .args .timestamps .now) (c .before .before .before .before .before .before .before .before .before .before .before .before .before .before .before .before .before .args .lengths .now) (c .before .before .before .before .before .before .before .before .before .before .before .before .before .before .before .before .before .args .marks .now) (c .before .before .before .before .before .before .before .before .before .before .before .before .before .before .before .before .before .args .parity .now) (c .before .before .before .before .before .before .before .before .before .before .before .before .before .before .before .before .before .args .words .now) (c .before .before .before .before .before .before .before .before .before .before .before .before .before .before .before .before .before .args .out .now) _ (c .before .before .before .before .before .before .before .before .before .before .before .before .before .before .before .before .before .pre) (c .before .before .before .before .before .before .before .write-column .result) (c .before .before .before .before .before .before .before .write-column .ensures) (c .by-number .result) (c .by-number .ensures)
 
 pub write-column-spec : {M : Type 1} → statement M
-write-column-spec = tie.close (tie.spec write-column-requires by-number-requires same-length same-length-2 returns)
+write-column-spec =
+    tie.close (tie.spec write-column-requires by-number-requires same-length same-length-2 returns)

@@ -1,9 +1,10 @@
 -- `offer::accept_media` meets its contract: the packet becomes present, and settling goes on from there. Assumes nothing.
 use mathlib.Core.Path.{_≡_, refl, sym, ap, _∙_}
 use mathlib.Core.List.{List}
-use Prim.Native.Nat.{ℕ, _<_}
+use Prim.Native.Nat.{ℕ, _-_, _<_}
 use lib.ListN.{length, getD, set, length-set}
 use Rattle.sequence.specs.Wrap.{ahead}
+use Rattle.rtp.specs.Rtp.{rtpHeaderSize}
 use Rattle.window.specs.Limits.{width}
 use Rattle.calls.specs.Accept.{acceptMedia}
 use Rattle.calls.specs.Call.{begun}
@@ -18,8 +19,8 @@ use Rattle.offer.proofs.accept_media.Statement.{statement}
 use Rattle.offer.proofs.accept_media.Tie as tie
 
 -- the parts of a store, by its lists
-abbrev parts : (media timestamps marks parity rows : List ℕ) → Parts
-parts media timestamps marks parity rows = record { media = media; timestamps = timestamps; marks = marks; parity = parity; rows = hand rows }
+abbrev parts : (media timestamps lengths marks parity rows : List ℕ) → Parts
+parts media timestamps lengths marks parity rows = record { media = media; timestamps = timestamps; lengths = lengths; marks = marks; parity = parity; rows = hand rows }
 
 sequence-number-requires : tie.Need-sequence-number-requires
 sequence-number-requires c κs = search needs
@@ -30,26 +31,22 @@ position-requires c κs = search needs
 cast-i : tie.Need-cast-i
 cast-i c = search needs
 
-mul-copy-at : tie.Need-mul-copy-at
-mul-copy-at c =
-    let the-position = c .before .position in
-    let the-args = c .before .before .before .before .before .before .before .before .before .args in
-    let the-sequence-number = c .before .before .sequence-number in
-    let the-pre = c .before .before .before .before .before .before .before .before .before .pre in
-    let the-good = c .before .before .before .before .before .before .before .before .before .good in
-    let e = the-position .ensures ∙ ap (ahead width (the-args .w .base)) (the-sequence-number .ensures) in
-    let n : the-position .result < the-args .w .n = rw e (the-pre .3) in
-    omega (arith, row-ends (the-position .result) (the-args .w .n) (the-args .w .p) _ n (the-pre .0 .media-long), the-good)
+sub-size : tie.Need-sub-size
+sub-size c = omega (arith, c .before .before .before .before .before .before .before .before .before .pre .2 .0)
 
-copy-at-requires : tie.Need-copy-at-requires
-copy-at-requires c κs =
-    let the-position = c .before .position in
-    let the-args = c .before .before .before .before .before .before .before .before .before .args in
-    let the-sequence-number = c .before .before .sequence-number in
-    let the-pre = c .before .before .before .before .before .before .before .before .before .pre in
-    let e = the-position .ensures ∙ ap (ahead width (the-args .w .base)) (the-sequence-number .ensures) in
-    let n : the-position .result < the-args .w .n = rw e (the-pre .3) in
-    (row-ends (the-position .result) (the-args .w .n) (the-args .w .p) _ n (the-pre .0 .media-long), omega (arith, the-pre .2))
+mul-lay-at : tie.Need-mul-lay-at
+mul-lay-at c =
+    let a = c .before .before .before .before .before .before .before .before .before .before .args in
+    let e = c .before .position .ensures ∙ ap (ahead width (a .w .base)) (c .before .before .sequence-number .ensures) in
+    let n : c .before .position .result < a .w .n = rw e (c .before .before .before .before .before .before .before .before .before .before .pre .3) in
+    omega (arith, row-ends (c .before .position .result) (a .w .n) (a .w .p) _ n (c .before .before .before .before .before .before .before .before .before .before .pre .0 .media-long), c .before .before .before .before .before .before .before .before .before .before .good)
+
+lay-at-requires : tie.Need-lay-at-requires
+lay-at-requires c κs =
+    let a = c .before .before .before .before .before .before .before .before .before .before .args in
+    let e = c .before .position .ensures ∙ ap (ahead width (a .w .base)) (c .before .before .sequence-number .ensures) in
+    let n : c .before .position .result < a .w .n = rw e (c .before .before .before .before .before .before .before .before .before .before .pre .3) in
+    (omega (arith, c .before .before .before .before .before .before .before .before .before .before .pre .2 .0, c .before .before .before .before .before .before .before .before .before .before .pre .2 .1), row-ends (c .before .position .result) (a .w .n) (a .w .p) _ n (c .before .before .before .before .before .before .before .before .before .before .pre .0 .media-long), omega (arith, c .before .before .before .before .before .before .before .before .before .before .pre .2 .0))
 
 timestamp-requires : tie.Need-timestamp-requires
 timestamp-requires c κs = search needs
@@ -59,105 +56,109 @@ mul-timestamps c = search needs
 
 slice-write-timestamps : tie.Need-slice-write-timestamps
 slice-write-timestamps c =
-    let the-position = c .before .before .before .before .before .position in
-    let the-args = c .before .before .before .before .before .before .before .before .before .before .before .before .before .args in
-    let the-sequence-number = c .before .before .before .before .before .before .sequence-number in
-    let the-pre = c .before .before .before .before .before .before .before .before .before .before .before .before .before .pre in
-    let e = the-position .ensures ∙ ap (ahead width (the-args .w .base)) (the-sequence-number .ensures) in
-    let n : the-position .result < the-args .w .n = rw e (the-pre .3) in
-    omega (arith, the-pre .0 .timestamps-long)
+    let a = c .before .before .before .before .before .before .before .before .before .before .before .before .before .before .args in
+    let e = c .before .before .before .before .before .position .ensures ∙ ap (ahead width (a .w .base)) (c .before .before .before .before .before .before .sequence-number .ensures) in
+    let n : c .before .before .before .before .before .position .result < a .w .n = rw e (c .before .before .before .before .before .before .before .before .before .before .before .before .before .before .pre .3) in
+    omega (arith, c .before .before .before .before .before .before .before .before .before .before .before .before .before .before .pre .0 .timestamps-long)
+
+cast-lengths : tie.Need-cast-lengths
+cast-lengths c = omega (arith, c .before .before .before .before .before .before .before .before .before .before .before .before .before .before .pre .2 .0, c .before .before .before .before .before .before .before .before .before .before .before .before .before .before .pre .2 .1, c .before .before .before .before .before .before .before .before .before .before .before .before .before .before .pre .0 .set-up .p-high)
+
+mul-lengths : tie.Need-mul-lengths
+mul-lengths c = search needs
+
+slice-write-lengths : tie.Need-slice-write-lengths
+slice-write-lengths c =
+    let a = c .before .before .before .before .before .before .before .before .before .before .before .before .before .before .args in
+    let e = c .before .before .before .before .before .position .ensures ∙ ap (ahead width (a .w .base)) (c .before .before .before .before .before .before .sequence-number .ensures) in
+    let n : c .before .before .before .before .before .position .result < a .w .n = rw e (c .before .before .before .before .before .before .before .before .before .before .before .before .before .before .pre .3) in
+    omega (arith, c .before .before .before .before .before .before .before .before .before .before .before .before .before .before .pre .0 .lengths-long)
 
 slice-write-marks : tie.Need-slice-write-marks
 slice-write-marks c =
-    let the-position = c .before .before .before .before .before .position in
-    let the-args = c .before .before .before .before .before .before .before .before .before .before .before .before .before .args in
-    let the-sequence-number = c .before .before .before .before .before .before .sequence-number in
-    let the-pre = c .before .before .before .before .before .before .before .before .before .before .before .before .before .pre in
-    let e = the-position .ensures ∙ ap (ahead width (the-args .w .base)) (the-sequence-number .ensures) in
-    let n : the-position .result < the-args .w .n = rw e (the-pre .3) in
-    omega (arith, the-pre .0 .marks-long)
+    let a = c .before .before .before .before .before .before .before .before .before .before .before .before .before .before .args in
+    let e = c .before .before .before .before .before .position .ensures ∙ ap (ahead width (a .w .base)) (c .before .before .before .before .before .before .sequence-number .ensures) in
+    let n : c .before .before .before .before .before .position .result < a .w .n = rw e (c .before .before .before .before .before .before .before .before .before .before .before .before .before .before .pre .3) in
+    omega (arith, c .before .before .before .before .before .before .before .before .before .before .before .before .before .before .pre .0 .marks-long)
 
 lower-requires : tie.Need-lower-requires
-lower-requires c κs =
-    let the-pre = c .before .before .before .before .before .before .before .before .before .before .before .before .before .before .pre in
-    (the-pre .0 .set-up, the-pre .1)
+lower-requires c κs = (c .before .before .before .before .before .before .before .before .before .before .before .before .before .before .before .pre .0 .set-up, c .before .before .before .before .before .before .before .before .before .before .before .before .before .before .before .pre .1)
 
 add-recounted : tie.Need-add-recounted
-add-recounted c =
-    let the-pre = c .before .before .before .before .before .before .before .before .before .before .before .before .before .before .before .before .before .before .pre in
-    omega (arith, the-pre .5, the-pre .0 .set-up .n-high)
+add-recounted c = omega (arith, c .before .before .before .before .before .before .before .before .before .before .before .before .before .before .before .before .before .before .before .pre .5, c .before .before .before .before .before .before .before .before .before .before .before .before .before .before .before .before .before .before .before .pre .0 .set-up .n-high)
 
 recounted-requires : tie.Need-recounted-requires
 recounted-requires c κs = search needs
 
-settle-requires : tie.Need-settle-requires
-settle-requires c κs =
-    let the-args = c .before .before .before .before .before .before .before .before .before .before .before .before .before .before .before .before .before .before .before .before .before .before .before .before .args in
-    let the-position = c .before .before .before .before .before .before .before .before .before .before .before .before .before .before .before .before .position in
-    let the-sequence-number = c .before .before .before .before .before .before .before .before .before .before .before .before .before .before .before .before .before .sequence-number in
-    let the-pre = c .before .before .before .before .before .before .before .before .before .before .before .before .before .before .before .before .before .before .before .before .before .before .before .before .pre in
-    let the-timestamp = c .before .before .before .before .before .before .before .before .before .before .before .timestamp in
-    let the-copy-at = c .before .before .before .before .before .before .before .before .before .before .before .before .before .before .copy-at in
-    let the-lower = c .before .before .before .before .before .before .before .before .before .lower in
-    let the-recounted = c .before .before .before .before .before .recounted in
-    let x = parts (the-args .media .now) (the-args .timestamps .now) (the-args .marks .now) (the-args .parity .now) (the-args .rows .now) in
-    let e = the-position .ensures ∙ ap (ahead width (the-args .w .base)) (the-sequence-number .ensures) in
-    let n : the-position .result < the-args .w .n = rw e (the-pre .3) in
-    let z : getD (the-args .marks .now) (the-position .result) 0 ≡ 0 = ap (λ (k : ℕ). getD (the-args .marks .now) k 0) e ∙ the-pre .4 in
-    (serves-after (the-args .w) x (the-pre .0) (the-position .result) n z _ (set (the-args .timestamps .now) (the-position .result) (the-timestamp .result)) _ (omega (arith, the-copy-at .kept)) (length-set (the-args .timestamps .now) _ _) refl _ (the-lower .ensures) (the-recounted .result) (the-recounted .ensures), alike-length (the-lower .ensures .alike) ∙ the-pre .1, rw (the-recounted .ensures) (omega (arith, the-pre .5, the-pre .6, the-pre .0 .set-up .n-high)))
-
-taken-requires : tie.Need-taken-requires
-taken-requires c κs = search needs
+go-on-requires : tie.Need-go-on-requires
+go-on-requires c κs =
+    let a = c .before .before .before .before .before .before .before .before .before .before .before .before .before .before .before .before .before .before .before .before .before .before .before .before .before .before .args in
+    let x = parts (a .media .now) (a .timestamps .now) (a .lengths .now) (a .marks .now) (a .parity .now) (a .rows .now) in
+    let e = c .before .before .before .before .before .before .before .before .before .before .before .before .before .before .before .before .before .position .ensures ∙ ap (ahead width (a .w .base)) (c .before .before .before .before .before .before .before .before .before .before .before .before .before .before .before .before .before .before .sequence-number .ensures) in
+    let n : c .before .before .before .before .before .before .before .before .before .before .before .before .before .before .before .before .before .position .result < a .w .n = rw e (c .before .before .before .before .before .before .before .before .before .before .before .before .before .before .before .before .before .before .before .before .before .before .before .before .before .before .pre .3) in
+    let z : getD (a .marks .now) (c .before .before .before .before .before .before .before .before .before .before .before .before .before .before .before .before .before .position .result) 0 ≡ 0 = ap (λ (k : ℕ). getD (a .marks .now) k 0) e ∙ c .before .before .before .before .before .before .before .before .before .before .before .before .before .before .before .before .before .before .before .before .before .before .before .before .before .before .pre .4 in (
+      serves-after (a .w) x (c .before .before .before .before .before .before .before .before .before .before .before .before .before .before .before .before .before .before .before .before .before .before .before .before .before .before .pre .0) (c .before .before .before .before .before .before .before .before .before .before .before .before .before .before .before .before .before .position .result) n z _ (set (a .timestamps .now) (c .before .before .before .before .before .before .before .before .before .before .before .before .before .before .before .before .before .position .result) (c .before .before .before .before .before .before .before .before .before .before .before .before .timestamp .result)) (set (a .lengths .now) (c .before .before .before .before .before .before .before .before .before .before .before .before .before .before .before .before .before .position .result) (length (a .datagram .now) - rtpHeaderSize)) _ (omega (arith, c .before .before .before .before .before .before .before .before .before .before .before .before .before .before .before .lay-at .kept)) (length-set (a .timestamps .now) _ _) (length-set (a .lengths .now) _ _) refl _ (c .before .before .before .before .before .before .before .before .before .before .lower .ensures) (c .before .before .before .before .before .before .recounted .result) (c .before .before .before .before .before .before .recounted .ensures),
+      alike-length (c .before .before .before .before .before .before .before .before .before .before .lower .ensures .alike) ∙ c .before .before .before .before .before .before .before .before .before .before .before .before .before .before .before .before .before .before .before .before .before .before .before .before .before .before .pre .1,
+      rw (c .before .before .before .before .before .before .recounted .ensures) (omega (arith, c .before .before .before .before .before .before .before .before .before .before .before .before .before .before .before .before .before .before .before .before .before .before .before .before .before .before .pre .5, c .before .before .before .before .before .before .before .before .before .before .before .before .before .before .before .before .before .before .before .before .before .before .before .before .before .before .pre .6, c .before .before .before .before .before .before .before .before .before .before .before .before .before .before .before .before .before .before .before .before .before .before .before .before .before .before .pre .0 .set-up .n-high)),
+      omega arith,
+      omega arith,
+    )
 
 same-length : tie.Need-same-length
-same-length c =
-    let the-copy-at = c .before .before .before .before .before .before .before .before .before .before .before .before .before .before .before .before .before .before .before .before .before .before .before .before .before .before .before .before .copy-at in
-    let the-settle = c .before .before .before .before .before .before .before .before .before .before .before .before .before .settle in
-    omega (arith, the-copy-at .kept, the-settle .kept)
+same-length c = omega (arith, c .before .before .before .before .before .before .before .before .before .before .before .before .before .before .before .before .before .before .before .before .before .before .before .before .before .before .before .before .lay-at .kept, c .before .before .before .before .before .before .before .before .before .before .before .before .go-on .kept)
 
 same-length-2 : tie.Need-same-length-2
-same-length-2 c =
-    let the-settle = c .before .before .before .before .before .before .before .before .before .before .before .before .before .settle in
-    let the-args = c .before .before .before .before .before .before .before .before .before .before .before .before .before .before .before .before .before .before .before .before .before .before .before .before .before .before .before .before .before .before .before .before .before .before .before .before .before .before .args in
-    let the-position = c .before .before .before .before .before .before .before .before .before .before .before .before .before .before .before .before .before .before .before .before .before .before .before .before .before .before .before .before .before .before .position in
-    let the-timestamp = c .before .before .before .before .before .before .before .before .before .before .before .before .before .before .before .before .before .before .before .before .before .before .before .before .before .timestamp in
-    omega (arith, the-settle .kept, length-set (the-args .timestamps .now) (the-position .result) (the-timestamp .result))
+same-length-2 c = omega (arith, c .before .before .before .before .before .before .before .before .before .before .before .before .go-on .kept, length-set (c .before .before .before .before .before .before .before .before .before .before .before .before .before .before .before .before .before .before .before .before .before .before .before .before .before .before .before .before .before .before .before .before .before .before .before .before .before .before .before .args .timestamps .now) (c .before .before .before .before .before .before .before .before .before .before .before .before .before .before .before .before .before .before .before .before .before .before .before .before .before .before .before .before .before .before .position .result) (c .before .before .before .before .before .before .before .before .before .before .before .before .before .before .before .before .before .before .before .before .before .before .before .before .before .timestamp .result))
 
 same-length-3 : tie.Need-same-length-3
-same-length-3 c =
-    let the-settle = c .before .before .before .before .before .before .before .before .before .before .before .before .before .settle in
-    let the-args = c .before .before .before .before .before .before .before .before .before .before .before .before .before .before .before .before .before .before .before .before .before .before .before .before .before .before .before .before .before .before .before .before .before .before .before .before .before .before .args in
-    let the-position = c .before .before .before .before .before .before .before .before .before .before .before .before .before .before .before .before .before .before .before .before .before .before .before .before .before .before .before .before .before .before .position in
-    omega (arith, the-settle .kept, length-set (the-args .marks .now) (the-position .result) 1)
+same-length-3 c = omega (arith, c .before .before .before .before .before .before .before .before .before .before .before .before .go-on .kept, length-set (c .before .before .before .before .before .before .before .before .before .before .before .before .before .before .before .before .before .before .before .before .before .before .before .before .before .before .before .before .before .before .before .before .before .before .before .before .before .before .before .args .lengths .now) (c .before .before .before .before .before .before .before .before .before .before .before .before .before .before .before .before .before .before .before .before .before .before .before .before .before .before .before .before .before .before .position .result) (length (c .before .before .before .before .before .before .before .before .before .before .before .before .before .before .before .before .before .before .before .before .before .before .before .before .before .before .before .before .before .before .before .before .before .before .before .before .before .before .before .args .datagram .now) - rtpHeaderSize))
 
 same-length-4 : tie.Need-same-length-4
-same-length-4 c =
-    let the-settle = c .before .before .before .before .before .before .before .before .before .before .before .before .before .settle in
-    omega (arith, the-settle .kept)
+same-length-4 c = omega (arith, c .before .before .before .before .before .before .before .before .before .before .before .before .go-on .kept, length-set (c .before .before .before .before .before .before .before .before .before .before .before .before .before .before .before .before .before .before .before .before .before .before .before .before .before .before .before .before .before .before .before .before .before .before .before .before .before .before .before .args .marks .now) (c .before .before .before .before .before .before .before .before .before .before .before .before .before .before .before .before .before .before .before .before .before .before .before .before .before .before .before .before .before .before .position .result) 1)
 
 same-length-5 : tie.Need-same-length-5
-same-length-5 c =
-    let the-settle = c .before .before .before .before .before .before .before .before .before .before .before .before .before .settle in
-    let the-lower = c .before .before .before .before .before .before .before .before .before .before .before .before .before .before .before .before .before .before .before .before .before .before .before .lower in
-    omega (arith, the-settle .kept, the-lower .kept)
+same-length-5 c = omega (arith, c .before .before .before .before .before .before .before .before .before .before .before .before .go-on .kept)
+
+same-length-6 : tie.Need-same-length-6
+same-length-6 c = omega (arith, c .before .before .before .before .before .before .before .before .before .before .before .before .go-on .kept, c .before .before .before .before .before .before .before .before .before .before .before .before .before .before .before .before .before .before .before .before .before .before .before .lower .kept)
 
 returns : tie.Need-returns
 returns c =
-    let the-args = c .before .before .before .before .before .before .before .before .before .before .before .before .before .before .before .before .before .before .before .before .before .before .before .before .before .before .before .before .before .before .before .before .before .before .before .before .before .before .args in
-    let the-position = c .before .before .before .before .before .before .before .before .before .before .before .before .before .before .before .before .before .before .before .before .before .before .before .before .before .before .before .before .before .before .position in
-    let the-sequence-number = c .before .before .before .before .before .before .before .before .before .before .before .before .before .before .before .before .before .before .before .before .before .before .before .before .before .before .before .before .before .before .before .sequence-number in
-    let the-pre = c .before .before .before .before .before .before .before .before .before .before .before .before .before .before .before .before .before .before .before .before .before .before .before .before .before .before .before .before .before .before .before .before .before .before .before .before .before .before .pre in
-    let the-taken = c .taken in
-    let the-copy-at = c .before .before .before .before .before .before .before .before .before .before .before .before .before .before .before .before .before .before .before .before .before .before .before .before .before .before .before .before .copy-at in
-    let the-timestamp = c .before .before .before .before .before .before .before .before .before .before .before .before .before .before .before .before .before .before .before .before .before .before .before .before .before .timestamp in
-    let the-lower = c .before .before .before .before .before .before .before .before .before .before .before .before .before .before .before .before .before .before .before .before .before .before .before .lower in
-    let the-recounted = c .before .before .before .before .before .before .before .before .before .before .before .before .before .before .before .before .before .before .before .recounted in
-    let the-settle = c .before .before .before .before .before .before .before .before .before .before .before .before .before .settle in
-    let x = parts (the-args .media .now) (the-args .timestamps .now) (the-args .marks .now) (the-args .parity .now) (the-args .rows .now) in
-    let e = the-position .ensures ∙ ap (ahead width (the-args .w .base)) (the-sequence-number .ensures) in
-    let n : the-position .result < the-args .w .n = rw e (the-pre .3) in
-    let z : getD (the-args .marks .now) (the-position .result) 0 ≡ 0 = ap (λ (k : ℕ). getD (the-args .marks .now) k 0) e ∙ the-pre .4 in
-    (rw (the-taken .ensures) (accepted (the-args .w) x (the-pre .0) (the-position .result) n z (the-copy-at .last .0) (set (the-args .timestamps .now) (the-position .result) (the-timestamp .result)) (set (the-args .marks .now) (the-position .result) 1) (omega (arith, the-copy-at .kept)) (length-set (the-args .timestamps .now) _ _) refl _ (the-lower .ensures) (the-recounted .result) (the-recounted .ensures) (λ s. acceptMedia (the-args .datagram .now) (begun (the-args .w) s)) 0 (λ t f. media-is (the-args .w) (the-recounted .result) (the-args .datagram .now) x t (the-position .result) (the-timestamp .result) _ (the-recounted .ensures) e (the-timestamp .ensures) (the-copy-at .ensures)) (the-settle .result) _ (the-settle .ensures) (the-settle .result .rebuilt) (omega arith)), rw (the-taken .ensures))
+    let a = c .before .before .before .before .before .before .before .before .before .before .before .before .before .before .before .before .before .before .before .before .before .before .before .before .before .before .before .before .before .before .before .before .before .before .before .before .before .before .before .args in
+    let x = parts (a .media .now) (a .timestamps .now) (a .lengths .now) (a .marks .now) (a .parity .now) (a .rows .now) in
+    let e = c .before .before .before .before .before .before .before .before .before .before .before .before .before .before .before .before .before .before .before .before .before .before .before .before .before .before .before .before .before .before .position .ensures ∙ ap (ahead width (a .w .base)) (c .before .before .before .before .before .before .before .before .before .before .before .before .before .before .before .before .before .before .before .before .before .before .before .before .before .before .before .before .before .before .before .sequence-number .ensures) in
+    let n : c .before .before .before .before .before .before .before .before .before .before .before .before .before .before .before .before .before .before .before .before .before .before .before .before .before .before .before .before .before .before .position .result < a .w .n = rw e (c .before .before .before .before .before .before .before .before .before .before .before .before .before .before .before .before .before .before .before .before .before .before .before .before .before .before .before .before .before .before .before .before .before .before .before .before .before .before .before .pre .3) in
+    let z : getD (a .marks .now) (c .before .before .before .before .before .before .before .before .before .before .before .before .before .before .before .before .before .before .before .before .before .before .before .before .before .before .before .before .before .before .position .result) 0 ≡ 0 = ap (λ (k : ℕ). getD (a .marks .now) k 0) e ∙ c .before .before .before .before .before .before .before .before .before .before .before .before .before .before .before .before .before .before .before .before .before .before .before .before .before .before .before .before .before .before .before .before .before .before .before .before .before .before .before .pre .4 in (
+      accepted (a .w) x (c .before .before .before .before .before .before .before .before .before .before .before .before .before .before .before .before .before .before .before .before .before .before .before .before .before .before .before .before .before .before .before .before .before .before .before .before .before .before .before .pre .0) (c .before .before .before .before .before .before .before .before .before .before .before .before .before .before .before .before .before .before .before .before .before .before .before .before .before .before .before .before .before .before .position .result) n z (c .before .before .before .before .before .before .before .before .before .before .before .before .before .before .before .before .before .before .before .before .before .before .before .before .before .before .before .before .lay-at .last .0) (set (a .timestamps .now) (c .before .before .before .before .before .before .before .before .before .before .before .before .before .before .before .before .before .before .before .before .before .before .before .before .before .before .before .before .before .before .position .result) (c .before .before .before .before .before .before .before .before .before .before .before .before .before .before .before .before .before .before .before .before .before .before .before .before .before .timestamp .result)) (set (a .lengths .now) (c .before .before .before .before .before .before .before .before .before .before .before .before .before .before .before .before .before .before .before .before .before .before .before .before .before .before .before .before .before .before .position .result) (length (a .datagram .now) - rtpHeaderSize)) (set (a .marks .now) (c .before .before .before .before .before .before .before .before .before .before .before .before .before .before .before .before .before .before .before .before .before .before .before .before .before .before .before .before .before .before .position .result) 1) (omega (arith, c .before .before .before .before .before .before .before .before .before .before .before .before .before .before .before .before .before .before .before .before .before .before .before .before .before .before .before .before .lay-at .kept)) (length-set (a .timestamps .now) _ _) (length-set (a .lengths .now) _ _) refl _ (c .before .before .before .before .before .before .before .before .before .before .before .before .before .before .before .before .before .before .before .before .before .before .before .lower .ensures) (c .before .before .before .before .before .before .before .before .before .before .before .before .before .before .before .before .before .before .before .recounted .result) (c .before .before .before .before .before .before .before .before .before .before .before .before .before .before .before .before .before .before .before .recounted .ensures) (λ s. acceptMedia (a .datagram .now) (begun (a .w) s)) 0 0
+          (λ t f. media-is (a .w) (c .before .before .before .before .before .before .before .before .before .before .before .before .before .before .before .before .before .before .before .recounted .result) (a .datagram .now) x t (c .before .before .before .before .before .before .before .before .before .before .before .before .before .before .before .before .before .before .before .before .before .before .before .before .before .before .before .before .before .before .position .result) (c .before .before .before .before .before .before .before .before .before .before .before .before .before .before .before .before .before .before .before .before .before .before .before .before .before .timestamp .result) _ (c .before .before .before .before .before .before .before .before .before .before .before .before .before .before .before .before .before .before .before .recounted .ensures) e (c .before .before .before .before .before .before .before .before .before .before .before .before .before .before .before .before .before .before .before .before .before .before .before .before .before .timestamp .ensures) (c .before .before .before .before .before .before .before .before .before .before .before .before .before .before .before .before .before .before .before .before .before .before .before .before .before .before .before .before .lay-at .ensures)) (c .before .before .before .before .before .before .before .before .before .before .before .before .go-on .result) _ (c .before .before .before .before .before .before .before .before .before .before .before .before .go-on .ensures),
+      c .before .before .before .before .before .before .before .before .before .before .before .before .go-on .ensures .free,
+    )
 
 pub accept-media-spec : {M : Type 1} → statement M
-accept-media-spec = tie.close (tie.spec sequence-number-requires position-requires cast-i mul-copy-at copy-at-requires timestamp-requires mul-timestamps slice-write-timestamps slice-write-marks lower-requires add-recounted recounted-requires settle-requires taken-requires same-length same-length-2 same-length-3 same-length-4 same-length-5 returns)
+accept-media-spec =
+    tie.close
+    (tie.spec
+    sequence-number-requires
+    position-requires
+    cast-i
+    sub-size
+    mul-lay-at
+    lay-at-requires
+    timestamp-requires
+    mul-timestamps
+    slice-write-timestamps
+    cast-lengths
+    mul-lengths
+    slice-write-lengths
+    slice-write-marks
+    lower-requires
+    add-recounted
+    recounted-requires
+    go-on-requires
+    same-length
+    same-length-2
+    same-length-3
+    same-length-4
+    same-length-5
+    same-length-6
+    returns)

@@ -6,35 +6,25 @@ use Rattle.open.proofs.clear.Statement.{statement}
 use Rattle.open.proofs.clear.Tie as tie
 
 mul-zero-at : tie.Need-mul-zero-at
-mul-zero-at c =
-    let the-pre = c .before .before .before .before .before .before .pre in
-    omega (arith, the-pre .0)
+mul-zero-at c = omega (arith, c .before .before .before .before .before .before .before .pre .0)
 
 zero-at-requires : tie.Need-zero-at-requires
-zero-at-requires c κs =
-    let the-pre = c .before .before .before .before .before .before .pre in
-    omega (arith, the-pre .0)
+zero-at-requires c κs = omega (arith, c .before .before .before .before .before .before .before .pre .0)
 
 zero32-requires : tie.Need-zero32-requires
-zero32-requires c κs =
-    let the-pre = c .before .before .before .before .before .before .before .before .before .before .pre in
-    omega (arith, the-pre .1)
+zero32-requires c κs = omega (arith, c .before .before .before .before .before .before .before .before .before .before .before .pre .1)
+
+zero16-requires : tie.Need-zero16-requires
+zero16-requires c κs = omega (arith, c .before .before .before .before .before .before .before .before .before .before .before .before .before .before .before .pre .2)
 
 zero-at-requires-2 : tie.Need-zero-at-requires-2
-zero-at-requires-2 c κs =
-    let the-pre = c .before .before .before .before .before .before .before .before .before .before .before .before .before .before .pre in
-    omega (arith, the-pre .2)
+zero-at-requires-2 c κs = omega (arith, c .before .before .before .before .before .before .before .before .before .before .before .before .before .before .before .before .before .before .before .pre .3)
 
 mul-zero-at-2 : tie.Need-mul-zero-at-2
-mul-zero-at-2 c =
-    let the-pre = c .before .before .before .before .before .before .before .before .before .before .before .before .before .before .before .before .before .before .before .pre in
-    let the-good = c .before .before .before .before .before .before .before .before .before .before .before .before .before .before .before .before .before .before .before .good in
-    omega (arith, the-pre .3, the-good)
+mul-zero-at-2 c = omega (arith, c .before .before .before .before .before .before .before .before .before .before .before .before .before .before .before .before .before .before .before .before .before .before .before .before .pre .4, c .before .before .before .before .before .before .before .before .before .before .before .before .before .before .before .before .before .before .before .before .before .before .before .before .good)
 
 zero-at-requires-3 : tie.Need-zero-at-requires-3
-zero-at-requires-3 c κs =
-    let the-pre = c .before .before .before .before .before .before .before .before .before .before .before .before .before .before .before .before .before .before .before .pre in
-    omega (arith, the-pre .3)
+zero-at-requires-3 c κs = omega (arith, c .before .before .before .before .before .before .before .before .before .before .before .before .before .before .before .before .before .before .before .before .before .before .before .before .pre .4)
 
 same-length : tie.Need-same-length
 same-length c = search needs
@@ -48,14 +38,28 @@ same-length-3 c = search needs
 same-length-4 : tie.Need-same-length-4
 same-length-4 c = search needs
 
+same-length-5 : tie.Need-same-length-5
+same-length-5 c = search needs
+
 returns : tie.Need-returns
 returns c =
-    let the-args = c .before .before .before .before .before .before .before .before .before .before .before .before .before .before .before .before .before .before .before .before .before .before .args in
-    let the-zero-at = c .before .before .before .before .before .before .before .before .before .before .before .before .before .before .before .zero-at in
-    let the-zero32 = c .before .before .before .before .before .before .before .before .before .before .before .zero32 in
-    let the-zero-at2 = c .before .before .before .before .before .before .before .zero-at2 in
-    let the-zero-at3 = c .before .before .zero-at3 in
-    all-cleared (the-args .w) (the-args .media .now) (the-args .timestamps .now) (the-args .marks .now) (the-args .parity .now) _ _ _ _ (the-zero-at .ensures) (the-zero32 .ensures) (the-zero-at2 .ensures) (the-zero-at3 .ensures)
+    let a = c .before .before .before .before .before .before .before .before .before .before .before .before .before .before .before .before .before .before .before .before .before .before .before .before .before .before .before .args in
+    all-cleared (a .w) (a .media .now) (a .timestamps .now) (a .lengths .now) (a .marks .now) (a .parity .now) _ _ _ _ _ (c .before .before .before .before .before .before .before .before .before .before .before .before .before .before .before .before .before .before .before .zero-at .ensures) (c .before .before .before .before .before .before .before .before .before .before .before .before .before .before .before .zero32 .ensures) (c .before .before .before .before .before .before .before .before .before .before .before .zero16 .ensures) (c .before .before .before .before .before .before .before .zero-at2 .ensures) (c .before .before .zero-at3 .ensures)
 
 pub clear-spec : {M : Type 1} → statement M
-clear-spec = tie.close (tie.spec mul-zero-at zero-at-requires zero32-requires zero-at-requires-2 mul-zero-at-2 zero-at-requires-3 same-length same-length-2 same-length-3 same-length-4 returns)
+clear-spec =
+    tie.close
+    (tie.spec
+    mul-zero-at
+    zero-at-requires
+    zero32-requires
+    zero16-requires
+    zero-at-requires-2
+    mul-zero-at-2
+    zero-at-requires-3
+    same-length
+    same-length-2
+    same-length-3
+    same-length-4
+    same-length-5
+    returns)

@@ -9,18 +9,14 @@ short-output-requires : tie.Need-short-output-requires
 short-output-requires c κs = search needs
 
 standing-fault-requires : tie.Need-standing-fault-requires
-standing-fault-requires c κs =
-    let the-pre = c .before .before .before .before .before .before .before .pre in
-    (refl, the-pre)
+standing-fault-requires c κs = (refl, refl, c .before .before .before .before .before .before .before .before .pre)
 
 same-length : tie.Need-same-length
 same-length c = search needs
 
 returns : tie.Need-returns
-returns c =
-    let the-short-output = c .before .before .before .before .short-output in
-    let the-standing-fault = c .before .before .standing-fault in
-    short-is _ _ (the-short-output .ensures) (the-standing-fault .ensures)
+returns c = short-is _ _ (c .before .before .before .before .short-output .ensures) (c .before .before .standing-fault .ensures)
 
 pub standing-spec : {M : Type 1} → statement M
-standing-spec = tie.close (tie.spec short-output-requires standing-fault-requires same-length returns)
+standing-spec =
+    tie.close (tie.spec short-output-requires standing-fault-requires same-length returns)

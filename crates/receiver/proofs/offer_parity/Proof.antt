@@ -19,39 +19,19 @@ handed-requires : tie.Need-handed-requires
 handed-requires c κs = search needs
 
 returns : tie.Need-returns
-returns c =
-    let the-handed = c .handed in
-    let the-args = c .before .before .before .before .before .before .before .before .before .args in
-    let the-has-room = c .before .before .has-room in
-    let the-if1 = c .before .if1 in
-    rw (the-handed .ensures) (unlaid ((the-args .w) .k) (the-args .len) (the-args .m) (the-args .words .now) (the-has-room .result) (the-has-room .ensures .1) (not-true _ (the-if1 .taken)) (offeredParity (the-args .stream) (the-args .w) (the-args .datagram .now)) (the-args .media .now) (the-args .timestamps .now) (the-args .marks .now) (the-args .parity .now) _)
+returns c = rw (c .handed .ensures) (unlaid ((c .before .before .before .before .before .before .before .before .before .before .args .w) .k) (c .before .before .before .before .before .before .before .before .before .before .args .len) (c .before .before .before .before .before .before .before .before .before .before .args .m) (c .before .before .before .before .before .before .before .before .before .before .args .words .now) (c .before .before .has-room .result) (c .before .before .has-room .ensures .1) (not-true _ (c .before .if1 .taken)) (offeredParity (c .before .before .before .before .before .before .before .before .before .before .args .stream) (c .before .before .before .before .before .before .before .before .before .before .args .w) (c .before .before .before .before .before .before .before .before .before .before .args .datagram .now)) (c .before .before .before .before .before .before .before .before .before .before .args .media .now) (c .before .before .before .before .before .before .before .before .before .before .args .timestamps .now) (c .before .before .before .before .before .before .before .before .before .before .args .lengths .now) (c .before .before .before .before .before .before .before .before .before .before .args .marks .now) (c .before .before .before .before .before .before .before .before .before .before .args .parity .now) _)
 
 mul-e : tie.Need-mul-e
-mul-e c =
-    let the-has-room = c .before .has-room in
-    let the-if1 = c .if1 in
-    let the-good = c .before .before .before .before .before .before .before .before .good in
-    omega (arith, the-has-room .ensures .0 (not-false _ (the-if1 .left)), the-good)
+mul-e c = omega (arith, c .before .has-room .ensures .0 (not-false _ (c .if1 .left)), c .before .before .before .before .before .before .before .before .before .good)
 
 slice-relend-prefix-offer-parity : tie.Need-slice-relend-prefix-offer-parity
-slice-relend-prefix-offer-parity c =
-    let the-has-room = c .before .before .before .before .before .has-room in
-    let the-if1 = c .before .before .before .before .if1 in
-    omega (arith, the-has-room .ensures .0 (not-false _ (the-if1 .left)) .1)
+slice-relend-prefix-offer-parity c = omega (arith, c .before .before .before .before .before .before .has-room .ensures .0 (not-false _ (c .before .before .before .before .before .if1 .left)) .1)
 
 slice-aggregate-offer-parity : tie.Need-slice-aggregate-offer-parity
-slice-aggregate-offer-parity c =
-    let the-args = c .before .before .before .before .before .before .before .before .before .before .before .before .before .args in
-    let the-has-room = c .before .before .before .before .before .before .has-room in
-    let the-if1 = c .before .before .before .before .before .if1 in
-    sym (part-words (the-args .words .now) (the-args .m) (the-has-room .ensures .0 (not-false _ (the-if1 .left)) .1))
+slice-aggregate-offer-parity c = sym (part-words (c .before .before .before .before .before .before .before .before .before .before .before .before .before .before .before .args .words .now) (c .before .before .before .before .before .before .before .before .before .before .before .before .before .before .before .args .m) (c .before .before .before .before .before .before .before .has-room .ensures .0 (not-false _ (c .before .before .before .before .before .before .if1 .left)) .1))
 
 offer-parity-requires : tie.Need-offer-parity-requires
-offer-parity-requires c κs =
-    let the-args = c .before .before .before .before .before .before .before .before .before .before .before .before .before .args in
-    let the-has-room = c .before .before .before .before .before .before .has-room in
-    let the-if1 = c .before .before .before .before .before .if1 in
-    (part-long (the-args .words .now) (the-args .m) (the-has-room .ensures .0 (not-false _ (the-if1 .left)) .1), the-has-room .ensures .0 (not-false _ (the-if1 .left)) .0)
+offer-parity-requires c κs = (part-long (c .before .before .before .before .before .before .before .before .before .before .before .before .before .before .before .args .words .now) (c .before .before .before .before .before .before .before .before .before .before .before .before .before .before .before .args .m) (c .before .before .before .before .before .before .before .has-room .ensures .0 (not-false _ (c .before .before .before .before .before .before .if1 .left)) .1), c .before .before .before .before .before .before .before .has-room .ensures .0 (not-false _ (c .before .before .before .before .before .before .if1 .left)) .0)
 
 handed-requires-2 : tie.Need-handed-requires-2
 handed-requires-2 c κs = search needs
@@ -71,37 +51,23 @@ same-length-4 c = search needs
 same-length-5 : tie.Need-same-length-5
 same-length-5 c = search needs
 
+same-length-6 : tie.Need-same-length-6
+same-length-6 c = search needs
+
 returns-2 : tie.Need-returns-2
-returns-2 c =
-    let the-handed2 = c .handed2 in
-    let the-args = c .before .before .before .before .before .before .before .before .before .before .before .before .before .before .before .before .before .before .before .before .before .before .before .before .before .before .before .before .before .args in
-    let the-has-room = c .before .before .before .before .before .before .before .before .before .before .before .before .before .before .before .before .before .before .before .before .before .before .has-room in
-    let the-if1 = c .before .before .before .before .before .before .before .before .before .before .before .before .before .before .before .before .before .before .before .before .before .if1 in
-    let the-offer-parity = c .before .before .before .before .before .before .before .before .before .before .before .before .before .before .before .offer-parity in
-    let the-if2 = c .before .if2 in
-    rw (the-handed2 .ensures) (plain-step (the-args .w .k) (the-args .len) (the-args .m) (the-args .words .now) (the-has-room .ensures .0 (not-false _ (the-if1 .left)) .1) (offeredParity (the-args .stream) (the-args .w) (the-args .datagram .now)) (the-args .media .now) (the-args .timestamps .now) (the-args .marks .now) (the-args .parity .now) (the-offer-parity .result) _ _ _ _ (the-offer-parity .last .1 .1 .1 .1 .1 .1 .1 .0) (omega (arith, the-offer-parity .kept, part-words (the-args .words .now) (the-args .m) (the-has-room .ensures .0 (not-false _ (the-if1 .left)) .1))) (the-offer-parity .ensures) (not-true _ (the-if2 .taken)))
+returns-2 c = rw (c .handed2 .ensures) (plain-step (c .before .before .before .before .before .before .before .before .before .before .before .before .before .before .before .before .before .before .before .before .before .before .before .before .before .before .before .before .before .before .before .before .before .args .w .k) (c .before .before .before .before .before .before .before .before .before .before .before .before .before .before .before .before .before .before .before .before .before .before .before .before .before .before .before .before .before .before .before .before .before .args .len) (c .before .before .before .before .before .before .before .before .before .before .before .before .before .before .before .before .before .before .before .before .before .before .before .before .before .before .before .before .before .before .before .before .before .args .m) (c .before .before .before .before .before .before .before .before .before .before .before .before .before .before .before .before .before .before .before .before .before .before .before .before .before .before .before .before .before .before .before .before .before .args .words .now) (c .before .before .before .before .before .before .before .before .before .before .before .before .before .before .before .before .before .before .before .before .before .before .before .before .before .has-room .ensures .0 (not-false _ (c .before .before .before .before .before .before .before .before .before .before .before .before .before .before .before .before .before .before .before .before .before .before .before .before .if1 .left)) .1) (offeredParity (c .before .before .before .before .before .before .before .before .before .before .before .before .before .before .before .before .before .before .before .before .before .before .before .before .before .before .before .before .before .before .before .before .before .args .stream) (c .before .before .before .before .before .before .before .before .before .before .before .before .before .before .before .before .before .before .before .before .before .before .before .before .before .before .before .before .before .before .before .before .before .args .w) (c .before .before .before .before .before .before .before .before .before .before .before .before .before .before .before .before .before .before .before .before .before .before .before .before .before .before .before .before .before .before .before .before .before .args .datagram .now)) (c .before .before .before .before .before .before .before .before .before .before .before .before .before .before .before .before .before .before .before .before .before .before .before .before .before .before .before .before .before .before .before .before .before .args .media .now) (c .before .before .before .before .before .before .before .before .before .before .before .before .before .before .before .before .before .before .before .before .before .before .before .before .before .before .before .before .before .before .before .before .before .args .timestamps .now) (c .before .before .before .before .before .before .before .before .before .before .before .before .before .before .before .before .before .before .before .before .before .before .before .before .before .before .before .before .before .before .before .before .before .args .lengths .now) (c .before .before .before .before .before .before .before .before .before .before .before .before .before .before .before .before .before .before .before .before .before .before .before .before .before .before .before .before .before .before .before .before .before .args .marks .now) (c .before .before .before .before .before .before .before .before .before .before .before .before .before .before .before .before .before .before .before .before .before .before .before .before .before .before .before .before .before .before .before .before .before .args .parity .now) (c .before .before .before .before .before .before .before .before .before .before .before .before .before .before .before .before .before .offer-parity .result) _ _ _ _ _ (c .before .before .before .before .before .before .before .before .before .before .before .before .before .before .before .before .before .offer-parity .last .1 .1 .1 .1 .1 .1 .1 .1 .0) (omega (arith, c .before .before .before .before .before .before .before .before .before .before .before .before .before .before .before .before .before .offer-parity .kept, part-words (c .before .before .before .before .before .before .before .before .before .before .before .before .before .before .before .before .before .before .before .before .before .before .before .before .before .before .before .before .before .before .before .before .before .args .words .now) (c .before .before .before .before .before .before .before .before .before .before .before .before .before .before .before .before .before .before .before .before .before .before .before .before .before .before .before .before .before .before .before .before .before .args .m) (c .before .before .before .before .before .before .before .before .before .before .before .before .before .before .before .before .before .before .before .before .before .before .before .before .before .has-room .ensures .0 (not-false _ (c .before .before .before .before .before .before .before .before .before .before .before .before .before .before .before .before .before .before .before .before .before .before .before .before .if1 .left)) .1))) (c .before .before .before .before .before .before .before .before .before .before .before .before .before .before .before .before .before .offer-parity .ensures) (not-true _ (c .before .if2 .taken)))
 
 hold-requires : tie.Need-hold-requires
-hold-requires c κs =
-    let the-args = c .before .before .before .before .before .before .before .before .before .before .before .before .before .before .before .before .before .before .before .before .before .before .before .before .before .before .before .before .before .args in
-    let the-has-room = c .before .before .before .before .before .before .before .before .before .before .before .before .before .before .before .before .before .before .before .before .before .before .has-room in
-    let the-if1 = c .before .before .before .before .before .before .before .before .before .before .before .before .before .before .before .before .before .before .before .before .before .if1 in
-    let the-offer-parity = c .before .before .before .before .before .before .before .before .before .before .before .before .before .before .before .offer-parity in
-    (back-more (the-args .words .now) (the-args .m) (the-has-room .ensures .0 (not-false _ (the-if1 .left)) .1) (the-offer-parity .last .1 .1 .1 .1 .1 .1 .1 .0) (omega (arith, the-offer-parity .kept, part-words (the-args .words .now) (the-args .m) (the-has-room .ensures .0 (not-false _ (the-if1 .left)) .1))), omega (arith, the-has-room .ensures .0 (not-false _ (the-if1 .left)) .0))
+hold-requires c κs = (back-more (c .before .before .before .before .before .before .before .before .before .before .before .before .before .before .before .before .before .before .before .before .before .before .before .before .before .before .before .before .before .before .before .before .before .args .words .now) (c .before .before .before .before .before .before .before .before .before .before .before .before .before .before .before .before .before .before .before .before .before .before .before .before .before .before .before .before .before .before .before .before .before .args .m) (c .before .before .before .before .before .before .before .before .before .before .before .before .before .before .before .before .before .before .before .before .before .before .before .before .before .has-room .ensures .0 (not-false _ (c .before .before .before .before .before .before .before .before .before .before .before .before .before .before .before .before .before .before .before .before .before .before .before .before .if1 .left)) .1) (c .before .before .before .before .before .before .before .before .before .before .before .before .before .before .before .before .before .offer-parity .last .1 .1 .1 .1 .1 .1 .1 .1 .0) (omega (arith, c .before .before .before .before .before .before .before .before .before .before .before .before .before .before .before .before .before .offer-parity .kept, part-words (c .before .before .before .before .before .before .before .before .before .before .before .before .before .before .before .before .before .before .before .before .before .before .before .before .before .before .before .before .before .before .before .before .before .args .words .now) (c .before .before .before .before .before .before .before .before .before .before .before .before .before .before .before .before .before .before .before .before .before .before .before .before .before .before .before .before .before .before .before .before .before .args .m) (c .before .before .before .before .before .before .before .before .before .before .before .before .before .before .before .before .before .before .before .before .before .before .before .before .before .has-room .ensures .0 (not-false _ (c .before .before .before .before .before .before .before .before .before .before .before .before .before .before .before .before .before .before .before .before .before .before .before .before .if1 .left)) .1))), omega (arith, c .before .before .before .before .before .before .before .before .before .before .before .before .before .before .before .before .before .before .before .before .before .before .before .before .before .has-room .ensures .0 (not-false _ (c .before .before .before .before .before .before .before .before .before .before .before .before .before .before .before .before .before .before .before .before .before .before .before .before .if1 .left)) .0))
 
 handed-requires-3 : tie.Need-handed-requires-3
 handed-requires-3 c κs = search needs
 
-same-length-6 : tie.Need-same-length-6
-same-length-6 c =
-    let the-offer-parity = c .before .before .before .before .before .before .before .before .before .before .before .before .before .before .before .before .before .before .before .offer-parity in
-    omega (arith, the-offer-parity .kept)
-
 same-length-7 : tie.Need-same-length-7
-same-length-7 c = search needs
+same-length-7 c = omega (arith, c .before .before .before .before .before .before .before .before .before .before .before .before .before .before .before .before .before .before .before .before .before .offer-parity .kept)
 
 same-length-8 : tie.Need-same-length-8
-same-length-8 c = search needs
+same-length-8 c = omega (arith, c .before .before .before .before .before .before .before .before .before .before .before .before .before .before .before .before .before .before .before .before .before .offer-parity .kept)
 
 same-length-9 : tie.Need-same-length-9
 same-length-9 c = search needs
@@ -109,16 +75,40 @@ same-length-9 c = search needs
 same-length-10 : tie.Need-same-length-10
 same-length-10 c = search needs
 
+same-length-11 : tie.Need-same-length-11
+same-length-11 c = search needs
+
+same-length-12 : tie.Need-same-length-12
+same-length-12 c = search needs
+
 returns-3 : tie.Need-returns-3
-returns-3 c =
-    let the-handed3 = c .handed3 in
-    let the-args = c .before .before .before .before .before .before .before .before .before .before .before .before .before .before .before .before .before .before .before .before .before .before .before .before .before .before .before .before .before .before .before .before .before .args in
-    let the-has-room = c .before .before .before .before .before .before .before .before .before .before .before .before .before .before .before .before .before .before .before .before .before .before .before .before .before .before .has-room in
-    let the-if1 = c .before .before .before .before .before .before .before .before .before .before .before .before .before .before .before .before .before .before .before .before .before .before .before .before .before .if1 in
-    let the-offer-parity = c .before .before .before .before .before .before .before .before .before .before .before .before .before .before .before .before .before .before .before .offer-parity in
-    let the-if2 = c .before .before .before .before .before .if2 in
-    let the-hold = c .before .before .before .hold in
-    rw (the-handed3 .ensures) (held-step (the-args .w .k) (the-args .len) (the-args .m) (the-args .words .now) (the-has-room .ensures .0 (not-false _ (the-if1 .left)) .1) (offeredParity (the-args .stream) (the-args .w) (the-args .datagram .now)) (the-args .media .now) (the-args .timestamps .now) (the-args .marks .now) (the-args .parity .now) (the-offer-parity .result) _ _ _ _ (the-offer-parity .last .1 .1 .1 .1 .1 .1 .1 .0) (omega (arith, the-offer-parity .kept, part-words (the-args .words .now) (the-args .m) (the-has-room .ensures .0 (not-false _ (the-if1 .left)) .1))) (the-offer-parity .ensures) (not-false _ (the-if2 .left)) (the-hold .result) _ (the-hold .ensures .0) (rows-few (the-hold .last .0) (the-args .m) (the-hold .result) (omega (arith, the-hold .kept, back-room (the-args .words .now) (the-args .m) (the-has-room .ensures .0 (not-false _ (the-if1 .left)) .1) (the-offer-parity .last .1 .1 .1 .1 .1 .1 .1 .0) (omega (arith, the-offer-parity .kept, part-words (the-args .words .now) (the-args .m) (the-has-room .ensures .0 (not-false _ (the-if1 .left)) .1))))) (the-hold .ensures .1)))
+returns-3 c = rw (c .handed3 .ensures) (held-step (c .before .before .before .before .before .before .before .before .before .before .before .before .before .before .before .before .before .before .before .before .before .before .before .before .before .before .before .before .before .before .before .before .before .before .before .before .before .args .w .k) (c .before .before .before .before .before .before .before .before .before .before .before .before .before .before .before .before .before .before .before .before .before .before .before .before .before .before .before .before .before .before .before .before .before .before .before .before .before .args .len) (c .before .before .before .before .before .before .before .before .before .before .before .before .before .before .before .before .before .before .before .before .before .before .before .before .before .before .before .before .before .before .before .before .before .before .before .before .before .args .m) (c .before .before .before .before .before .before .before .before .before .before .before .before .before .before .before .before .before .before .before .before .before .before .before .before .before .before .before .before .before .before .before .before .before .before .before .before .before .args .words .now) (c .before .before .before .before .before .before .before .before .before .before .before .before .before .before .before .before .before .before .before .before .before .before .before .before .before .before .before .before .before .has-room .ensures .0 (not-false _ (c .before .before .before .before .before .before .before .before .before .before .before .before .before .before .before .before .before .before .before .before .before .before .before .before .before .before .before .before .if1 .left)) .1) (offeredParity (c .before .before .before .before .before .before .before .before .before .before .before .before .before .before .before .before .before .before .before .before .before .before .before .before .before .before .before .before .before .before .before .before .before .before .before .before .before .args .stream) (c .before .before .before .before .before .before .before .before .before .before .before .before .before .before .before .before .before .before .before .before .before .before .before .before .before .before .before .before .before .before .before .before .before .before .before .before .before .args .w) (c .before .before .before .before .before .before .before .before .before .before .before .before .before .before .before .before .before .before .before .before .before .before .before .before .before .before .before .before .before .before .before .before .before .before .before .before .before .args .datagram .now)) (c .before .before .before .before .before .before .before .before .before .before .before .before .before .before .before .before .before .before .before .before .before .before .before .before .before .before .before .before .before .before .before .before .before .before .before .before .before .args .media .now) (c .before .before .before .before .before .before .before .before .before .before .before .before .before .before .before .before .before .before .before .before .before .before .before .before .before .before .before .before .before .before .before .before .before .before .before .before .before .args .timestamps .now) (c .before .before .before .before .before .before .before .before .before .before .before .before .before .before .before .before .before .before .before .before .before .before .before .before .before .before .before .before .before .before .before .before .before .before .before .before .before .args .lengths .now) (c .before .before .before .before .before .before .before .before .before .before .before .before .before .before .before .before .before .before .before .before .before .before .before .before .before .before .before .before .before .before .before .before .before .before .before .before .before .args .marks .now) (c .before .before .before .before .before .before .before .before .before .before .before .before .before .before .before .before .before .before .before .before .before .before .before .before .before .before .before .before .before .before .before .before .before .before .before .before .before .args .parity .now) (c .before .before .before .before .before .before .before .before .before .before .before .before .before .before .before .before .before .before .before .before .before .offer-parity .result) _ _ _ _ _ (c .before .before .before .before .before .before .before .before .before .before .before .before .before .before .before .before .before .before .before .before .before .offer-parity .last .1 .1 .1 .1 .1 .1 .1 .1 .0) (omega (arith, c .before .before .before .before .before .before .before .before .before .before .before .before .before .before .before .before .before .before .before .before .before .offer-parity .kept, part-words (c .before .before .before .before .before .before .before .before .before .before .before .before .before .before .before .before .before .before .before .before .before .before .before .before .before .before .before .before .before .before .before .before .before .before .before .before .before .args .words .now) (c .before .before .before .before .before .before .before .before .before .before .before .before .before .before .before .before .before .before .before .before .before .before .before .before .before .before .before .before .before .before .before .before .before .before .before .before .before .args .m) (c .before .before .before .before .before .before .before .before .before .before .before .before .before .before .before .before .before .before .before .before .before .before .before .before .before .before .before .before .before .has-room .ensures .0 (not-false _ (c .before .before .before .before .before .before .before .before .before .before .before .before .before .before .before .before .before .before .before .before .before .before .before .before .before .before .before .before .if1 .left)) .1))) (c .before .before .before .before .before .before .before .before .before .before .before .before .before .before .before .before .before .before .before .before .before .offer-parity .ensures) (not-false _ (c .before .before .before .before .before .if2 .left)) (c .before .before .before .hold .result) _ (c .before .before .before .hold .ensures .0) (rows-few (c .before .before .before .hold .last .0) (c .before .before .before .before .before .before .before .before .before .before .before .before .before .before .before .before .before .before .before .before .before .before .before .before .before .before .before .before .before .before .before .before .before .before .before .before .before .args .m) (c .before .before .before .hold .result) (omega (arith, c .before .before .before .hold .kept, back-room (c .before .before .before .before .before .before .before .before .before .before .before .before .before .before .before .before .before .before .before .before .before .before .before .before .before .before .before .before .before .before .before .before .before .before .before .before .before .args .words .now) (c .before .before .before .before .before .before .before .before .before .before .before .before .before .before .before .before .before .before .before .before .before .before .before .before .before .before .before .before .before .before .before .before .before .before .before .before .before .args .m) (c .before .before .before .before .before .before .before .before .before .before .before .before .before .before .before .before .before .before .before .before .before .before .before .before .before .before .before .before .before .has-room .ensures .0 (not-false _ (c .before .before .before .before .before .before .before .before .before .before .before .before .before .before .before .before .before .before .before .before .before .before .before .before .before .before .before .before .if1 .left)) .1) (c .before .before .before .before .before .before .before .before .before .before .before .before .before .before .before .before .before .before .before .before .before .offer-parity .last .1 .1 .1 .1 .1 .1 .1 .1 .0) (omega (arith, c .before .before .before .before .before .before .before .before .before .before .before .before .before .before .before .before .before .before .before .before .before .offer-parity .kept, part-words (c .before .before .before .before .before .before .before .before .before .before .before .before .before .before .before .before .before .before .before .before .before .before .before .before .before .before .before .before .before .before .before .before .before .before .before .before .before .args .words .now) (c .before .before .before .before .before .before .before .before .before .before .before .before .before .before .before .before .before .before .before .before .before .before .before .before .before .before .before .before .before .before .before .before .before .before .before .before .before .args .m) (c .before .before .before .before .before .before .before .before .before .before .before .before .before .before .before .before .before .before .before .before .before .before .before .before .before .before .before .before .before .has-room .ensures .0 (not-false _ (c .before .before .before .before .before .before .before .before .before .before .before .before .before .before .before .before .before .before .before .before .before .before .before .before .before .before .before .before .if1 .left)) .1))))) (c .before .before .before .hold .ensures .1)))
 
 pub offer-parity-spec : {M : Type 1} → statement M
-offer-parity-spec = tie.close (tie.spec has-room-requires handed-requires returns mul-e slice-relend-prefix-offer-parity slice-aggregate-offer-parity offer-parity-requires handed-requires-2 same-length same-length-2 same-length-3 same-length-4 same-length-5 returns-2 hold-requires handed-requires-3 same-length-6 same-length-7 same-length-8 same-length-9 same-length-10 returns-3)
+offer-parity-spec =
+    tie.close
+    (tie.spec
+    has-room-requires
+    handed-requires
+    returns
+    mul-e
+    slice-relend-prefix-offer-parity
+    slice-aggregate-offer-parity
+    offer-parity-requires
+    handed-requires-2
+    same-length
+    same-length-2
+    same-length-3
+    same-length-4
+    same-length-5
+    same-length-6
+    returns-2
+    hold-requires
+    handed-requires-3
+    same-length-7
+    same-length-8
+    same-length-9
+    same-length-10
+    same-length-11
+    same-length-12
+    returns-3)

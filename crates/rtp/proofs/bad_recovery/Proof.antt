@@ -18,15 +18,6 @@ cast-by-na c = search needs
 by-na-requires : tie.Need-by-na-requires
 by-na-requires c κs = search needs
 
-length-recovery-requires : tie.Need-length-recovery-requires
-length-recovery-requires c κs = search needs
-
-cast-result-2 : tie.Need-cast-result-2
-cast-result-2 c = search needs
-
-by-na-requires-2 : tie.Need-by-na-requires-2
-by-na-requires-2 c κs = search needs
-
 returns : tie.Need-returns
 returns c = cc
 
@@ -39,7 +30,4 @@ bad-recovery-spec =
     cast-result
     cast-by-na
     by-na-requires
-    length-recovery-requires
-    cast-result-2
-    by-na-requires-2
     returns)

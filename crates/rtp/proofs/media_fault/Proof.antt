@@ -22,8 +22,8 @@ skip2 c r h = skip1 (c .before .before) r (first-past _ _ _ _ (sym (c .before .b
 skip3 : (c : tie.Else3) → Skips (c .before .before .before .before .before .before) 3
 skip3 c r h = skip2 (c .before .before) r (first-past _ _ _ _ (ap not (eq-eqb _ _ (sym (c .before .payload-type .ensures) ∙ c .if3 .left))) h)
 
-skip4 : (c : tie.Else4) → Skips (c .before .before .before .before .before .before .before) 4
-skip4 c r h = skip3 (c .before) r (first-past _ _ _ _ (ap not (eq-eqb _ _ (c .if4 .left))) h)
+skip4 : (c : tie.Else4) → Skips (c .before .before .before .before .before .before .before .before) 4
+skip4 c r h = skip3 (c .before .before) r (first-past _ _ _ _ (ap not (sym (c .before .good-length .ensures)) ∙ c .if4 .left) h)
 
 returns : tie.Need-returns
 returns c = first-hit _ _ _ (lt-ltb _ _ (c .if1 .taken))
@@ -40,11 +40,14 @@ payload-type-requires c κs = search needs
 returns-3 : tie.Need-returns-3
 returns-3 c = skip2 (c .before .before) _ (first-hit _ _ _ (ap not (ne-eqb _ _ (λ e. c .if3 .taken (c .before .payload-type .ensures ∙ e)))))
 
-sub-if4 : tie.Need-sub-if4
-sub-if4 c = search needs
+sub-good-length : tie.Need-sub-good-length
+sub-good-length c = search needs
+
+good-length-requires : tie.Need-good-length-requires
+good-length-requires c κs = search needs
 
 returns-4 : tie.Need-returns-4
-returns-4 c = skip3 (c .before) _ (first-hit _ _ _ (ap not (ne-eqb _ _ (c .if4 .taken))))
+returns-4 c = skip3 (c .before .before) _ (first-hit _ _ _ (ap not (sym (c .before .good-length .ensures)) ∙ c .if4 .taken))
 
 returns-5 : tie.Need-returns-5
 returns-5 c = skip4 c 0 first-end
@@ -58,6 +61,7 @@ media-fault-spec =
     returns-2
     payload-type-requires
     returns-3
-    sub-if4
+    sub-good-length
+    good-length-requires
     returns-4
     returns-5)

@@ -1,31 +1,35 @@
--- `cases::wire::filled` stays in its datagram, and ends: the counter rises to P. Assumes nothing.
-use mathlib.Core.Path.{_≡_}
+-- `cases::wire::filled` stays in its datagram, and ends: the counter rises to NA. Assumes nothing.
 use Prim.Native.Nat.{_-_, _≤_}
-use lib.ListN.{length}
 use borrow.Author.Needs.{needs}
 use Rattle.cases.proofs.wire.filled.Statement.{statement}
 use Rattle.cases.proofs.wire.filled.Tie as tie
 
 abbrev Inv-loop : tie.InvT-loop
-Inv-loop headers start offset na out₀ i₀ out i = (i ≤ 188) × (length out ≡ 228)
+Inv-loop headers p start offset na out₀ j₀ out j = j ≤ na
 
 abbrev μ-loop : tie.MeasureT-loop
-μ-loop headers start offset na out₀ i₀ out i = 188 - i
+μ-loop headers p start offset na out₀ j₀ out j = na - j
 
 loop-holds : tie.Need-loop-holds Inv-loop μ-loop
 loop-holds c = search needs
 
-payloads-requires : tie.Need-payloads-requires Inv-loop μ-loop
-payloads-requires c κs = search needs
+member-at-requires : tie.Need-member-at-requires Inv-loop μ-loop
+member-at-requires c κs = search needs
 
-add-out : tie.Need-add-out Inv-loop μ-loop
-add-out c = search needs
+size-requires : tie.Need-size-requires Inv-loop μ-loop
+size-requires c κs = search needs
 
-array-write-out : tie.Need-array-write-out Inv-loop μ-loop
-array-write-out c = search needs
+cast-joined : tie.Need-cast-joined Inv-loop μ-loop
+cast-joined c = search needs
 
-add-i : tie.Need-add-i Inv-loop μ-loop
-add-i c = search needs
+add-joined : tie.Need-add-joined Inv-loop μ-loop
+add-joined c = search needs
+
+joined-requires : tie.Need-joined-requires Inv-loop μ-loop
+joined-requires c κs = search needs
+
+add-j : tie.Need-add-j Inv-loop μ-loop
+add-j c = search needs
 
 loop-less : tie.Need-loop-less Inv-loop μ-loop
 loop-less c = search needs
@@ -43,10 +47,12 @@ filled-spec =
     Inv-loop
     μ-loop
     loop-holds
-    payloads-requires
-    add-out
-    array-write-out
-    add-i
+    member-at-requires
+    size-requires
+    cast-joined
+    add-joined
+    joined-requires
+    add-j
     loop-less
     loop-again
     returns)

@@ -10,7 +10,7 @@ mul-result c = product-fits _ _ (omega (arith, c .before .pre)) (omega (arith, c
 
 mul-result-2 : tie.Need-mul-result-2
 mul-result-2 c =
-    let o = c .before .before .before .before .before .before .before in
+    let o = c .before .before .before .before .before .before .before .before .before in
     product-fits _ _ (omega (arith, o .pre)) (omega (arith, o .pre))
 
 returns : tie.Need-returns
