@@ -40,6 +40,11 @@ pub settle-rest : (x : State) → next x ≡ none → settle x ≡ x
 unfolding settle
 settle-rest x e = rounds-rest (x .window .«in_use») x e
 
+-- with no record in use there is nothing to settle
+pub settle-none : (x : State) → x .window .«in_use» ≡ 0 → settle x ≡ x
+unfolding settle rounds
+settle-none x e = ap (λ (n : ℕ). rounds round n x) e
+
 -- a record that waits for enough is not ready
 waits-not : (used : Bool) (n : ℕ) → (used ≡ true → leastMissing ≤ n) → (used && eqb n 1) ≡ false
 waits-not true n h = ne-eqb n 1 (λ e. omega (arith, h refl))

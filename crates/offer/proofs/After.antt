@@ -23,6 +23,7 @@ use Rattle.xor.specs.Xor.{padded}
 use Rattle.calls.specs.Content.{Recovery}
 use Rattle.calls.specs.State.{State, scene, recount, rebuild, fitsOver, countSpoilt, hold}
 use Rattle.calls.specs.Accept.{recoveryOf, firstFree, acceptMedia, takeParity, acceptParity}
+use Rattle.calls.specs.Rest.{settle-none}
 use Rattle.calls.specs.Call.{begun, settled}
 use Rattle.table.specs.View.{Row, scatter}
 use Rattle.table.specs.Apart.{Fits, alike-scatter, alike-fits}
@@ -95,6 +96,15 @@ went v x b q r z s = record {
   same-slots = s .same-slots;
   is = λ t f. ap (λ (u : State). record { answer = Done (u .rebuilt) (u .spoilt); window = u .window; store = u .store }) (s .is t f b q);
   still = λ e t. ap (λ (l : List Row). scatter l t) (s .still (eqb-true (r .rebuilt + r .spoilt) 0 (not-false (eqb (r .rebuilt + r .spoilt) 0) e)));
+  free = refl;
+}
+
+-- with no record in use there is nothing to settle
+pub went-none : (v : Window) (x : Parts) (b q : ℕ) → v .«in_use» ≡ 0 → Went v x b q (plainly b q v false) x
+went-none v x b q e = record {
+  same-slots = refl;
+  is = λ t f. ap (λ (u : State). record { answer = Done (u .rebuilt) (u .spoilt); window = u .window; store = u .store }) (sym (settle-none (scene v (over x t) b q) e));
+  still = λ h t. refl;
   free = refl;
 }
 

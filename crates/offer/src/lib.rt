@@ -156,7 +156,8 @@ fn media_place_fault(
     15
 }
 
-// A media packet that no refusal applies to becomes present, and what it makes ready rebuilds.
+// A media packet that no refusal applies to becomes present, and what it makes ready rebuilds. With no record in use, as it is most of
+// the time, there is nothing to settle, and the window value is not handed on through memory.
 fn accept_media(
     w: Window,
     datagram: &[u8],
@@ -181,6 +182,9 @@ fn accept_media(
     lengths[i] = size as u16;
     marks[i] = 1;
     engine::lower(w, i, rows, m);
+    if w.in_use == 0 {
+        return taken(engine::recounted(w, w.present + 1, w.in_use), 0, 0, false);
+    }
     let v = engine::recounted(w, w.present + 1, w.in_use);
     go_on(v, 0, 0, media, timestamps, lengths, marks, parity, rows, m)
 }

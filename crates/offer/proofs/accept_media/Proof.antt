@@ -12,7 +12,9 @@ use Rattle.table.specs.View.{hand}
 use Rattle.table.specs.Apart.{alike-length}
 use Rattle.engine.specs.Round.{Parts}
 use Rattle.group.proofs.Rows.{row-ends}
-use Rattle.offer.proofs.After.{serves-after, accepted, media-is}
+use Rattle.window.specs.declared.Window.{Window}
+use Rattle.offer.specs.declared.Offered.{Offered}
+use Rattle.offer.proofs.After.{serves-after, accepted, went-none, media-is}
 use native.Mathlib.Omega.{arith}
 use borrow.Author.Needs.{needs}
 use Rattle.offer.proofs.accept_media.Statement.{statement}
@@ -85,52 +87,89 @@ lower-requires : tie.Need-lower-requires
 lower-requires c κs = (c .before .before .before .before .before .before .before .before .before .before .before .before .before .before .before .pre .0 .set-up, c .before .before .before .before .before .before .before .before .before .before .before .before .before .before .before .pre .1)
 
 add-recounted : tie.Need-add-recounted
-add-recounted c = omega (arith, c .before .before .before .before .before .before .before .before .before .before .before .before .before .before .before .before .before .before .before .pre .5, c .before .before .before .before .before .before .before .before .before .before .before .before .before .before .before .before .before .before .before .pre .0 .set-up .n-high)
+add-recounted c = omega (arith, c .before .before .before .before .before .before .before .before .before .before .before .before .before .before .before .before .before .before .before .before .before .pre .5, c .before .before .before .before .before .before .before .before .before .before .before .before .before .before .before .before .before .before .before .before .before .pre .0 .set-up .n-high)
 
 recounted-requires : tie.Need-recounted-requires
 recounted-requires c κs = search needs
 
+taken-requires : tie.Need-taken-requires
+taken-requires c κs = search needs
+
+same-length : tie.Need-same-length
+same-length c = omega (arith, c .before .before .before .before .before .before .before .before .before .before .before .before .lay-at .kept)
+
+same-length-2 : tie.Need-same-length-2
+same-length-2 c = omega (arith, length-set (c .before .before .before .before .before .before .before .before .before .before .before .before .before .before .before .before .before .before .before .before .before .before .before .args .timestamps .now) (c .before .before .before .before .before .before .before .before .before .before .before .before .before .before .position .result) (c .before .before .before .before .before .before .before .before .before .timestamp .result))
+
+same-length-3 : tie.Need-same-length-3
+same-length-3 c = omega (arith, length-set (c .before .before .before .before .before .before .before .before .before .before .before .before .before .before .before .before .before .before .before .before .before .before .before .args .lengths .now) (c .before .before .before .before .before .before .before .before .before .before .before .before .before .before .position .result) (length (c .before .before .before .before .before .before .before .before .before .before .before .before .before .before .before .before .before .before .before .before .before .before .before .args .datagram .now) - rtpHeaderSize))
+
+same-length-4 : tie.Need-same-length-4
+same-length-4 c = omega (arith, length-set (c .before .before .before .before .before .before .before .before .before .before .before .before .before .before .before .before .before .before .before .before .before .before .before .args .marks .now) (c .before .before .before .before .before .before .before .before .before .before .before .before .before .before .position .result) 1)
+
+same-length-5 : tie.Need-same-length-5
+same-length-5 c = omega (arith, c .before .before .before .before .before .before .before .lower .kept)
+
+returns : tie.Need-returns
+returns c =
+    let a = c .before .before .before .before .before .before .before .before .before .before .before .before .before .before .before .before .before .before .before .before .before .before .before .args in
+    let x = parts (a .media .now) (a .timestamps .now) (a .lengths .now) (a .marks .now) (a .parity .now) (a .rows .now) in
+    let e = c .before .before .before .before .before .before .before .before .before .before .before .before .before .before .position .ensures ∙ ap (ahead width (a .w .base)) (c .before .before .before .before .before .before .before .before .before .before .before .before .before .before .before .sequence-number .ensures) in
+    let n : c .before .before .before .before .before .before .before .before .before .before .before .before .before .before .position .result < a .w .n = rw e (c .before .before .before .before .before .before .before .before .before .before .before .before .before .before .before .before .before .before .before .before .before .before .before .pre .3) in
+    let u : a .w .«in_use» ≡ 0 = omega (arith, c .before .before .before .if1 .taken) in
+    let z : getD (a .marks .now) (c .before .before .before .before .before .before .before .before .before .before .before .before .before .before .position .result) 0 ≡ 0 = ap (λ (k : ℕ). getD (a .marks .now) k 0) e ∙ c .before .before .before .before .before .before .before .before .before .before .before .before .before .before .before .before .before .before .before .before .before .before .before .pre .4 in (
+      accepted (a .w) x (c .before .before .before .before .before .before .before .before .before .before .before .before .before .before .before .before .before .before .before .before .before .before .before .pre .0) (c .before .before .before .before .before .before .before .before .before .before .before .before .before .before .position .result) n z (c .before .before .before .before .before .before .before .before .before .before .before .before .lay-at .last .0) (set (a .timestamps .now) (c .before .before .before .before .before .before .before .before .before .before .before .before .before .before .position .result) (c .before .before .before .before .before .before .before .before .before .timestamp .result)) (set (a .lengths .now) (c .before .before .before .before .before .before .before .before .before .before .before .before .before .before .position .result) (length (a .datagram .now) - rtpHeaderSize)) (set (a .marks .now) (c .before .before .before .before .before .before .before .before .before .before .before .before .before .before .position .result) 1) (omega (arith, c .before .before .before .before .before .before .before .before .before .before .before .before .lay-at .kept)) (length-set (a .timestamps .now) _ _) (length-set (a .lengths .now) _ _) refl _ (c .before .before .before .before .before .before .before .lower .ensures) (c .before .recounted .result) (c .before .recounted .ensures) (λ s. acceptMedia (a .datagram .now) (begun (a .w) s)) 0 0
+          (λ t f. media-is (a .w) (c .before .recounted .result) (a .datagram .now) x t (c .before .before .before .before .before .before .before .before .before .before .before .before .before .before .position .result) (c .before .before .before .before .before .before .before .before .before .timestamp .result) _ (c .before .recounted .ensures) e (c .before .before .before .before .before .before .before .before .before .timestamp .ensures) (c .before .before .before .before .before .before .before .before .before .before .before .before .lay-at .ensures)) (c .taken .result) _ (rw (c .taken .ensures) (went-none (c .before .recounted .result) _ 0 0 (ap (λ (v : Window). v .«in_use») (c .before .recounted .ensures) ∙ u))),
+      ap (λ (o : Offered). o .held) (c .taken .ensures),
+    )
+
+add-recounted-2 : tie.Need-add-recounted-2
+add-recounted-2 c = omega (arith, c .before .before .before .before .before .before .before .before .before .before .before .before .before .before .before .before .before .before .before .before .before .pre .5, c .before .before .before .before .before .before .before .before .before .before .before .before .before .before .before .before .before .before .before .before .before .pre .0 .set-up .n-high)
+
+recounted-requires-2 : tie.Need-recounted-requires-2
+recounted-requires-2 c κs = search needs
+
 go-on-requires : tie.Need-go-on-requires
 go-on-requires c κs =
-    let a = c .before .before .before .before .before .before .before .before .before .before .before .before .before .before .before .before .before .before .before .before .before .before .before .before .before .before .args in
+    let a = c .before .before .before .before .before .before .before .before .before .before .before .before .before .before .before .before .before .before .before .before .before .before .before .before .before .before .before .before .args in
     let x = parts (a .media .now) (a .timestamps .now) (a .lengths .now) (a .marks .now) (a .parity .now) (a .rows .now) in
-    let e = c .before .before .before .before .before .before .before .before .before .before .before .before .before .before .before .before .before .position .ensures ∙ ap (ahead width (a .w .base)) (c .before .before .before .before .before .before .before .before .before .before .before .before .before .before .before .before .before .before .sequence-number .ensures) in
-    let n : c .before .before .before .before .before .before .before .before .before .before .before .before .before .before .before .before .before .position .result < a .w .n = rw e (c .before .before .before .before .before .before .before .before .before .before .before .before .before .before .before .before .before .before .before .before .before .before .before .before .before .before .pre .3) in
-    let z : getD (a .marks .now) (c .before .before .before .before .before .before .before .before .before .before .before .before .before .before .before .before .before .position .result) 0 ≡ 0 = ap (λ (k : ℕ). getD (a .marks .now) k 0) e ∙ c .before .before .before .before .before .before .before .before .before .before .before .before .before .before .before .before .before .before .before .before .before .before .before .before .before .before .pre .4 in (
-      serves-after (a .w) x (c .before .before .before .before .before .before .before .before .before .before .before .before .before .before .before .before .before .before .before .before .before .before .before .before .before .before .pre .0) (c .before .before .before .before .before .before .before .before .before .before .before .before .before .before .before .before .before .position .result) n z _ (set (a .timestamps .now) (c .before .before .before .before .before .before .before .before .before .before .before .before .before .before .before .before .before .position .result) (c .before .before .before .before .before .before .before .before .before .before .before .before .timestamp .result)) (set (a .lengths .now) (c .before .before .before .before .before .before .before .before .before .before .before .before .before .before .before .before .before .position .result) (length (a .datagram .now) - rtpHeaderSize)) _ (omega (arith, c .before .before .before .before .before .before .before .before .before .before .before .before .before .before .before .lay-at .kept)) (length-set (a .timestamps .now) _ _) (length-set (a .lengths .now) _ _) refl _ (c .before .before .before .before .before .before .before .before .before .before .lower .ensures) (c .before .before .before .before .before .before .recounted .result) (c .before .before .before .before .before .before .recounted .ensures),
-      alike-length (c .before .before .before .before .before .before .before .before .before .before .lower .ensures .alike) ∙ c .before .before .before .before .before .before .before .before .before .before .before .before .before .before .before .before .before .before .before .before .before .before .before .before .before .before .pre .1,
-      rw (c .before .before .before .before .before .before .recounted .ensures) (omega (arith, c .before .before .before .before .before .before .before .before .before .before .before .before .before .before .before .before .before .before .before .before .before .before .before .before .before .before .pre .5, c .before .before .before .before .before .before .before .before .before .before .before .before .before .before .before .before .before .before .before .before .before .before .before .before .before .before .pre .6, c .before .before .before .before .before .before .before .before .before .before .before .before .before .before .before .before .before .before .before .before .before .before .before .before .before .before .pre .0 .set-up .n-high)),
+    let e = c .before .before .before .before .before .before .before .before .before .before .before .before .before .before .before .before .before .before .before .position .ensures ∙ ap (ahead width (a .w .base)) (c .before .before .before .before .before .before .before .before .before .before .before .before .before .before .before .before .before .before .before .before .sequence-number .ensures) in
+    let n : c .before .before .before .before .before .before .before .before .before .before .before .before .before .before .before .before .before .before .before .position .result < a .w .n = rw e (c .before .before .before .before .before .before .before .before .before .before .before .before .before .before .before .before .before .before .before .before .before .before .before .before .before .before .before .before .pre .3) in
+    let z : getD (a .marks .now) (c .before .before .before .before .before .before .before .before .before .before .before .before .before .before .before .before .before .before .before .position .result) 0 ≡ 0 = ap (λ (k : ℕ). getD (a .marks .now) k 0) e ∙ c .before .before .before .before .before .before .before .before .before .before .before .before .before .before .before .before .before .before .before .before .before .before .before .before .before .before .before .before .pre .4 in (
+      serves-after (a .w) x (c .before .before .before .before .before .before .before .before .before .before .before .before .before .before .before .before .before .before .before .before .before .before .before .before .before .before .before .before .pre .0) (c .before .before .before .before .before .before .before .before .before .before .before .before .before .before .before .before .before .before .before .position .result) n z _ (set (a .timestamps .now) (c .before .before .before .before .before .before .before .before .before .before .before .before .before .before .before .before .before .before .before .position .result) (c .before .before .before .before .before .before .before .before .before .before .before .before .before .before .timestamp .result)) (set (a .lengths .now) (c .before .before .before .before .before .before .before .before .before .before .before .before .before .before .before .before .before .before .before .position .result) (length (a .datagram .now) - rtpHeaderSize)) _ (omega (arith, c .before .before .before .before .before .before .before .before .before .before .before .before .before .before .before .before .before .lay-at .kept)) (length-set (a .timestamps .now) _ _) (length-set (a .lengths .now) _ _) refl _ (c .before .before .before .before .before .before .before .before .before .before .before .before .lower .ensures) (c .before .before .before .before .before .before .recounted2 .result) (c .before .before .before .before .before .before .recounted2 .ensures),
+      alike-length (c .before .before .before .before .before .before .before .before .before .before .before .before .lower .ensures .alike) ∙ c .before .before .before .before .before .before .before .before .before .before .before .before .before .before .before .before .before .before .before .before .before .before .before .before .before .before .before .before .pre .1,
+      rw (c .before .before .before .before .before .before .recounted2 .ensures) (omega (arith, c .before .before .before .before .before .before .before .before .before .before .before .before .before .before .before .before .before .before .before .before .before .before .before .before .before .before .before .before .pre .5, c .before .before .before .before .before .before .before .before .before .before .before .before .before .before .before .before .before .before .before .before .before .before .before .before .before .before .before .before .pre .6, c .before .before .before .before .before .before .before .before .before .before .before .before .before .before .before .before .before .before .before .before .before .before .before .before .before .before .before .before .pre .0 .set-up .n-high)),
       omega arith,
       omega arith,
     )
 
-same-length : tie.Need-same-length
-same-length c = omega (arith, c .before .before .before .before .before .before .before .before .before .before .before .before .before .before .before .before .before .before .before .before .before .before .before .before .before .before .before .before .lay-at .kept, c .before .before .before .before .before .before .before .before .before .before .before .before .go-on .kept)
-
-same-length-2 : tie.Need-same-length-2
-same-length-2 c = omega (arith, c .before .before .before .before .before .before .before .before .before .before .before .before .go-on .kept, length-set (c .before .before .before .before .before .before .before .before .before .before .before .before .before .before .before .before .before .before .before .before .before .before .before .before .before .before .before .before .before .before .before .before .before .before .before .before .before .before .before .args .timestamps .now) (c .before .before .before .before .before .before .before .before .before .before .before .before .before .before .before .before .before .before .before .before .before .before .before .before .before .before .before .before .before .before .position .result) (c .before .before .before .before .before .before .before .before .before .before .before .before .before .before .before .before .before .before .before .before .before .before .before .before .before .timestamp .result))
-
-same-length-3 : tie.Need-same-length-3
-same-length-3 c = omega (arith, c .before .before .before .before .before .before .before .before .before .before .before .before .go-on .kept, length-set (c .before .before .before .before .before .before .before .before .before .before .before .before .before .before .before .before .before .before .before .before .before .before .before .before .before .before .before .before .before .before .before .before .before .before .before .before .before .before .before .args .lengths .now) (c .before .before .before .before .before .before .before .before .before .before .before .before .before .before .before .before .before .before .before .before .before .before .before .before .before .before .before .before .before .before .position .result) (length (c .before .before .before .before .before .before .before .before .before .before .before .before .before .before .before .before .before .before .before .before .before .before .before .before .before .before .before .before .before .before .before .before .before .before .before .before .before .before .before .args .datagram .now) - rtpHeaderSize))
-
-same-length-4 : tie.Need-same-length-4
-same-length-4 c = omega (arith, c .before .before .before .before .before .before .before .before .before .before .before .before .go-on .kept, length-set (c .before .before .before .before .before .before .before .before .before .before .before .before .before .before .before .before .before .before .before .before .before .before .before .before .before .before .before .before .before .before .before .before .before .before .before .before .before .before .before .args .marks .now) (c .before .before .before .before .before .before .before .before .before .before .before .before .before .before .before .before .before .before .before .before .before .before .before .before .before .before .before .before .before .before .position .result) 1)
-
-same-length-5 : tie.Need-same-length-5
-same-length-5 c = omega (arith, c .before .before .before .before .before .before .before .before .before .before .before .before .go-on .kept)
-
 same-length-6 : tie.Need-same-length-6
-same-length-6 c = omega (arith, c .before .before .before .before .before .before .before .before .before .before .before .before .go-on .kept, c .before .before .before .before .before .before .before .before .before .before .before .before .before .before .before .before .before .before .before .before .before .before .before .lower .kept)
+same-length-6 c = omega (arith, c .before .before .before .before .before .before .before .before .before .before .before .before .before .before .before .before .before .before .before .before .before .before .before .before .before .before .before .before .before .before .lay-at .kept, c .before .before .before .before .before .before .before .before .before .before .before .before .go-on .kept)
 
-returns : tie.Need-returns
-returns c =
-    let a = c .before .before .before .before .before .before .before .before .before .before .before .before .before .before .before .before .before .before .before .before .before .before .before .before .before .before .before .before .before .before .before .before .before .before .before .before .before .before .before .args in
+same-length-7 : tie.Need-same-length-7
+same-length-7 c = omega (arith, c .before .before .before .before .before .before .before .before .before .before .before .before .go-on .kept, length-set (c .before .before .before .before .before .before .before .before .before .before .before .before .before .before .before .before .before .before .before .before .before .before .before .before .before .before .before .before .before .before .before .before .before .before .before .before .before .before .before .before .before .args .timestamps .now) (c .before .before .before .before .before .before .before .before .before .before .before .before .before .before .before .before .before .before .before .before .before .before .before .before .before .before .before .before .before .before .before .before .position .result) (c .before .before .before .before .before .before .before .before .before .before .before .before .before .before .before .before .before .before .before .before .before .before .before .before .before .before .before .timestamp .result))
+
+same-length-8 : tie.Need-same-length-8
+same-length-8 c = omega (arith, c .before .before .before .before .before .before .before .before .before .before .before .before .go-on .kept, length-set (c .before .before .before .before .before .before .before .before .before .before .before .before .before .before .before .before .before .before .before .before .before .before .before .before .before .before .before .before .before .before .before .before .before .before .before .before .before .before .before .before .before .args .lengths .now) (c .before .before .before .before .before .before .before .before .before .before .before .before .before .before .before .before .before .before .before .before .before .before .before .before .before .before .before .before .before .before .before .before .position .result) (length (c .before .before .before .before .before .before .before .before .before .before .before .before .before .before .before .before .before .before .before .before .before .before .before .before .before .before .before .before .before .before .before .before .before .before .before .before .before .before .before .before .before .args .datagram .now) - rtpHeaderSize))
+
+same-length-9 : tie.Need-same-length-9
+same-length-9 c = omega (arith, c .before .before .before .before .before .before .before .before .before .before .before .before .go-on .kept, length-set (c .before .before .before .before .before .before .before .before .before .before .before .before .before .before .before .before .before .before .before .before .before .before .before .before .before .before .before .before .before .before .before .before .before .before .before .before .before .before .before .before .before .args .marks .now) (c .before .before .before .before .before .before .before .before .before .before .before .before .before .before .before .before .before .before .before .before .before .before .before .before .before .before .before .before .before .before .before .before .position .result) 1)
+
+same-length-10 : tie.Need-same-length-10
+same-length-10 c = omega (arith, c .before .before .before .before .before .before .before .before .before .before .before .before .go-on .kept)
+
+same-length-11 : tie.Need-same-length-11
+same-length-11 c = omega (arith, c .before .before .before .before .before .before .before .before .before .before .before .before .go-on .kept, c .before .before .before .before .before .before .before .before .before .before .before .before .before .before .before .before .before .before .before .before .before .before .before .before .before .lower .kept)
+
+returns-2 : tie.Need-returns-2
+returns-2 c =
+    let a = c .before .before .before .before .before .before .before .before .before .before .before .before .before .before .before .before .before .before .before .before .before .before .before .before .before .before .before .before .before .before .before .before .before .before .before .before .before .before .before .before .before .args in
     let x = parts (a .media .now) (a .timestamps .now) (a .lengths .now) (a .marks .now) (a .parity .now) (a .rows .now) in
-    let e = c .before .before .before .before .before .before .before .before .before .before .before .before .before .before .before .before .before .before .before .before .before .before .before .before .before .before .before .before .before .before .position .ensures ∙ ap (ahead width (a .w .base)) (c .before .before .before .before .before .before .before .before .before .before .before .before .before .before .before .before .before .before .before .before .before .before .before .before .before .before .before .before .before .before .before .sequence-number .ensures) in
-    let n : c .before .before .before .before .before .before .before .before .before .before .before .before .before .before .before .before .before .before .before .before .before .before .before .before .before .before .before .before .before .before .position .result < a .w .n = rw e (c .before .before .before .before .before .before .before .before .before .before .before .before .before .before .before .before .before .before .before .before .before .before .before .before .before .before .before .before .before .before .before .before .before .before .before .before .before .before .before .pre .3) in
-    let z : getD (a .marks .now) (c .before .before .before .before .before .before .before .before .before .before .before .before .before .before .before .before .before .before .before .before .before .before .before .before .before .before .before .before .before .before .position .result) 0 ≡ 0 = ap (λ (k : ℕ). getD (a .marks .now) k 0) e ∙ c .before .before .before .before .before .before .before .before .before .before .before .before .before .before .before .before .before .before .before .before .before .before .before .before .before .before .before .before .before .before .before .before .before .before .before .before .before .before .before .pre .4 in (
-      accepted (a .w) x (c .before .before .before .before .before .before .before .before .before .before .before .before .before .before .before .before .before .before .before .before .before .before .before .before .before .before .before .before .before .before .before .before .before .before .before .before .before .before .before .pre .0) (c .before .before .before .before .before .before .before .before .before .before .before .before .before .before .before .before .before .before .before .before .before .before .before .before .before .before .before .before .before .before .position .result) n z (c .before .before .before .before .before .before .before .before .before .before .before .before .before .before .before .before .before .before .before .before .before .before .before .before .before .before .before .before .lay-at .last .0) (set (a .timestamps .now) (c .before .before .before .before .before .before .before .before .before .before .before .before .before .before .before .before .before .before .before .before .before .before .before .before .before .before .before .before .before .before .position .result) (c .before .before .before .before .before .before .before .before .before .before .before .before .before .before .before .before .before .before .before .before .before .before .before .before .before .timestamp .result)) (set (a .lengths .now) (c .before .before .before .before .before .before .before .before .before .before .before .before .before .before .before .before .before .before .before .before .before .before .before .before .before .before .before .before .before .before .position .result) (length (a .datagram .now) - rtpHeaderSize)) (set (a .marks .now) (c .before .before .before .before .before .before .before .before .before .before .before .before .before .before .before .before .before .before .before .before .before .before .before .before .before .before .before .before .before .before .position .result) 1) (omega (arith, c .before .before .before .before .before .before .before .before .before .before .before .before .before .before .before .before .before .before .before .before .before .before .before .before .before .before .before .before .lay-at .kept)) (length-set (a .timestamps .now) _ _) (length-set (a .lengths .now) _ _) refl _ (c .before .before .before .before .before .before .before .before .before .before .before .before .before .before .before .before .before .before .before .before .before .before .before .lower .ensures) (c .before .before .before .before .before .before .before .before .before .before .before .before .before .before .before .before .before .before .before .recounted .result) (c .before .before .before .before .before .before .before .before .before .before .before .before .before .before .before .before .before .before .before .recounted .ensures) (λ s. acceptMedia (a .datagram .now) (begun (a .w) s)) 0 0
-          (λ t f. media-is (a .w) (c .before .before .before .before .before .before .before .before .before .before .before .before .before .before .before .before .before .before .before .recounted .result) (a .datagram .now) x t (c .before .before .before .before .before .before .before .before .before .before .before .before .before .before .before .before .before .before .before .before .before .before .before .before .before .before .before .before .before .before .position .result) (c .before .before .before .before .before .before .before .before .before .before .before .before .before .before .before .before .before .before .before .before .before .before .before .before .before .timestamp .result) _ (c .before .before .before .before .before .before .before .before .before .before .before .before .before .before .before .before .before .before .before .recounted .ensures) e (c .before .before .before .before .before .before .before .before .before .before .before .before .before .before .before .before .before .before .before .before .before .before .before .before .before .timestamp .ensures) (c .before .before .before .before .before .before .before .before .before .before .before .before .before .before .before .before .before .before .before .before .before .before .before .before .before .before .before .before .lay-at .ensures)) (c .before .before .before .before .before .before .before .before .before .before .before .before .go-on .result) _ (c .before .before .before .before .before .before .before .before .before .before .before .before .go-on .ensures),
+    let e = c .before .before .before .before .before .before .before .before .before .before .before .before .before .before .before .before .before .before .before .before .before .before .before .before .before .before .before .before .before .before .before .before .position .ensures ∙ ap (ahead width (a .w .base)) (c .before .before .before .before .before .before .before .before .before .before .before .before .before .before .before .before .before .before .before .before .before .before .before .before .before .before .before .before .before .before .before .before .before .sequence-number .ensures) in
+    let n : c .before .before .before .before .before .before .before .before .before .before .before .before .before .before .before .before .before .before .before .before .before .before .before .before .before .before .before .before .before .before .before .before .position .result < a .w .n = rw e (c .before .before .before .before .before .before .before .before .before .before .before .before .before .before .before .before .before .before .before .before .before .before .before .before .before .before .before .before .before .before .before .before .before .before .before .before .before .before .before .before .before .pre .3) in
+    let z : getD (a .marks .now) (c .before .before .before .before .before .before .before .before .before .before .before .before .before .before .before .before .before .before .before .before .before .before .before .before .before .before .before .before .before .before .before .before .position .result) 0 ≡ 0 = ap (λ (k : ℕ). getD (a .marks .now) k 0) e ∙ c .before .before .before .before .before .before .before .before .before .before .before .before .before .before .before .before .before .before .before .before .before .before .before .before .before .before .before .before .before .before .before .before .before .before .before .before .before .before .before .before .before .pre .4 in (
+      accepted (a .w) x (c .before .before .before .before .before .before .before .before .before .before .before .before .before .before .before .before .before .before .before .before .before .before .before .before .before .before .before .before .before .before .before .before .before .before .before .before .before .before .before .before .before .pre .0) (c .before .before .before .before .before .before .before .before .before .before .before .before .before .before .before .before .before .before .before .before .before .before .before .before .before .before .before .before .before .before .before .before .position .result) n z (c .before .before .before .before .before .before .before .before .before .before .before .before .before .before .before .before .before .before .before .before .before .before .before .before .before .before .before .before .before .before .lay-at .last .0) (set (a .timestamps .now) (c .before .before .before .before .before .before .before .before .before .before .before .before .before .before .before .before .before .before .before .before .before .before .before .before .before .before .before .before .before .before .before .before .position .result) (c .before .before .before .before .before .before .before .before .before .before .before .before .before .before .before .before .before .before .before .before .before .before .before .before .before .before .before .timestamp .result)) (set (a .lengths .now) (c .before .before .before .before .before .before .before .before .before .before .before .before .before .before .before .before .before .before .before .before .before .before .before .before .before .before .before .before .before .before .before .before .position .result) (length (a .datagram .now) - rtpHeaderSize)) (set (a .marks .now) (c .before .before .before .before .before .before .before .before .before .before .before .before .before .before .before .before .before .before .before .before .before .before .before .before .before .before .before .before .before .before .before .before .position .result) 1) (omega (arith, c .before .before .before .before .before .before .before .before .before .before .before .before .before .before .before .before .before .before .before .before .before .before .before .before .before .before .before .before .before .before .lay-at .kept)) (length-set (a .timestamps .now) _ _) (length-set (a .lengths .now) _ _) refl _ (c .before .before .before .before .before .before .before .before .before .before .before .before .before .before .before .before .before .before .before .before .before .before .before .before .before .lower .ensures) (c .before .before .before .before .before .before .before .before .before .before .before .before .before .before .before .before .before .before .before .recounted2 .result) (c .before .before .before .before .before .before .before .before .before .before .before .before .before .before .before .before .before .before .before .recounted2 .ensures) (λ s. acceptMedia (a .datagram .now) (begun (a .w) s)) 0 0
+          (λ t f. media-is (a .w) (c .before .before .before .before .before .before .before .before .before .before .before .before .before .before .before .before .before .before .before .recounted2 .result) (a .datagram .now) x t (c .before .before .before .before .before .before .before .before .before .before .before .before .before .before .before .before .before .before .before .before .before .before .before .before .before .before .before .before .before .before .before .before .position .result) (c .before .before .before .before .before .before .before .before .before .before .before .before .before .before .before .before .before .before .before .before .before .before .before .before .before .before .before .timestamp .result) _ (c .before .before .before .before .before .before .before .before .before .before .before .before .before .before .before .before .before .before .before .recounted2 .ensures) e (c .before .before .before .before .before .before .before .before .before .before .before .before .before .before .before .before .before .before .before .before .before .before .before .before .before .before .before .timestamp .ensures) (c .before .before .before .before .before .before .before .before .before .before .before .before .before .before .before .before .before .before .before .before .before .before .before .before .before .before .before .before .before .before .lay-at .ensures)) (c .before .before .before .before .before .before .before .before .before .before .before .before .go-on .result) _ (c .before .before .before .before .before .before .before .before .before .before .before .before .go-on .ensures),
       c .before .before .before .before .before .before .before .before .before .before .before .before .go-on .ensures .free,
     )
 
@@ -154,11 +193,20 @@ accept-media-spec =
     lower-requires
     add-recounted
     recounted-requires
-    go-on-requires
+    taken-requires
     same-length
     same-length-2
     same-length-3
     same-length-4
     same-length-5
+    returns
+    add-recounted-2
+    recounted-requires-2
+    go-on-requires
     same-length-6
-    returns)
+    same-length-7
+    same-length-8
+    same-length-9
+    same-length-10
+    same-length-11
+    returns-2)
