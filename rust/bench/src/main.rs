@@ -32,32 +32,41 @@ fn open(l: usize, d: usize, payload: usize, positions: usize, records: usize) ->
 }
 
 /// A receiver with every packet of its window but those of some positions.
-fn filled(l: usize, d: usize, payload: usize, positions: usize, records: usize, but: &dyn Fn(usize) -> bool) -> (Receiver, Stretch) {
-    let mut receiver = open(l, d, payload, positions, records);
-    let stretch = Stretch { base: 65_500, payload };
+fn filled(stretch: Stretch, l: usize, d: usize, positions: usize, records: usize, but: &dyn Fn(usize) -> bool) -> (Receiver, Stretch) {
+    let mut receiver = open(l, d, stretch.payload, positions, records);
     for i in (0..positions).filter(|i| !but(*i)) {
         receiver.media(&media(&stretch, i)).unwrap();
     }
     (receiver, stretch)
 }
 
+/// The 20 parity packets of a 10 × 10 matrix, each with room for the largest.
+fn written(receiver: &Receiver) -> Vec<[u8; PARITY_HEADER + 1316]> {
+    let mut out = vec![[0; PARITY_HEADER + 1316]; 20];
+    write_all(receiver, &mut out);
+    out
+}
+
+fn write_all(receiver: &Receiver, out: &mut [[u8; PARITY_HEADER + 1316]]) {
+    let number = |i: usize| 65_500u16.wrapping_add(i as u16);
+    for i in 0..10 {
+        receiver.write_column(number(i), Outer::default(), &mut out[i]).unwrap();
+        receiver.write_row(number(10 * i), Outer::default(), &mut out[10 + i]).unwrap();
+    }
+}
+
+fn writes(receiver: &Receiver) -> f64 {
+    let mut out = written(receiver);
+    median(2001, || (), |_| write_all(receiver, &mut out))
+}
+
 /// All 20 parity packets of a 10 × 10 matrix, P = 1,316: 100 payloads one after the other, 20 outputs of 1,344 bytes.
 fn writing() {
     const P: usize = 1316;
-    let (receiver, stretch) = filled(10, 10, P, 100, 40, &|_| false);
+    let (receiver, stretch) = filled(Stretch::full(P), 10, 10, 100, 40, &|_| false);
     let payloads: Vec<u8> = (0..100).flat_map(|i| stretch.payload(i)).collect();
-    let mut out = vec![[0u8; PARITY_HEADER + P]; 20];
-    let number = |i: usize| 65_500u16.wrapping_add(i as u16);
-    let ours = median(
-        2001,
-        || (),
-        |_| {
-            for i in 0..10 {
-                receiver.write_column(number(i), Outer::default(), &mut out[i]).unwrap();
-                receiver.write_row(number(10 * i), Outer::default(), &mut out[10 + i]).unwrap();
-            }
-        },
-    );
+    let ours = writes(&receiver);
+    let out = written(&receiver);
     let mut sums = vec![[0u8; P]; 20];
     let run_time =
         median(201, || (), |_| plain::parity_at_run_time(black_box(&payloads), black_box(10), black_box(10), black_box(P), &mut sums));
@@ -85,8 +94,8 @@ fn writing() {
 }
 
 /// A media packet in good weather: every packet of the window in turn, none lost; the store and the datagrams are the working set.
-fn good_weather(positions: usize, records: usize, p: usize) -> (f64, f64) {
-    let stretch = Stretch { base: 65_500, payload: p };
+fn good_weather(positions: usize, records: usize, stretch: Stretch) -> (f64, f64) {
+    let p = stretch.payload;
     let datagrams: Vec<Vec<u8>> = (0..positions).map(|i| media(&stretch, i)).collect();
     let each = median(
         501,
@@ -103,7 +112,8 @@ fn good_weather(positions: usize, records: usize, p: usize) -> (f64, f64) {
         || (),
         |_| {
             for (g, to) in datagrams.iter().zip(store.chunks_exact_mut(p)) {
-                to.copy_from_slice(&black_box(g)[12..]);
+                let payload = &black_box(g)[12..];
+                to[..payload.len()].copy_from_slice(payload);
             }
         },
     ) / positions as f64;
@@ -111,8 +121,8 @@ fn good_weather(positions: usize, records: usize, p: usize) -> (f64, f64) {
 }
 
 /// A packet that rebuilds one other: the parity of a row of NA = L packets waits for two.
-fn rebuilds_one(na: usize, p: usize) -> f64 {
-    let (mut waiting, stretch) = filled(na, 5, p, 100, 40, &|i| i < 2);
+fn rebuilds_one(na: usize, stretch: Stretch) -> f64 {
+    let (mut waiting, stretch) = filled(stretch, na, 5, 100, 40, &|i| i < 2);
     assert_eq!(waiting.row(&parity(&stretch, na, 5, true, 0)), taken(0));
     let late = media(&stretch, 0);
     median(1001, || waiting.clone(), |r| assert_eq!(r.media(&late), taken(1)))
@@ -120,7 +130,7 @@ fn rebuilds_one(na: usize, p: usize) -> f64 {
 
 /// A late packet that sets off `chain` rebuilds: every third packet is lost, and a row of four waits for each two neighbours.
 fn rebuilds_many(chain: usize, n: usize, k: usize, p: usize) -> f64 {
-    let (mut waiting, stretch) = filled(4, 4, p, n, k, &|i| i % 3 == 0 && i <= 3 * chain);
+    let (mut waiting, stretch) = filled(Stretch::full(p), 4, 4, n, k, &|i| i % 3 == 0 && i <= 3 * chain);
     for i in 0..chain {
         assert_eq!(waiting.row(&parity(&stretch, 4, 4, true, 3 * i)), taken(0));
     }
@@ -130,14 +140,14 @@ fn rebuilds_many(chain: usize, n: usize, k: usize, p: usize) -> f64 {
 
 /// A parity packet that is held: two of its group are missing.
 fn holds(k: usize, p: usize) -> f64 {
-    let (waiting, stretch) = filled(10, 10, p, 200, k, &|i| i < 2);
+    let (waiting, stretch) = filled(Stretch::full(p), 10, 10, 200, k, &|i| i < 2);
     let row = parity(&stretch, 10, 10, true, 0);
     median(1001, || waiting.clone(), |r| assert_eq!(r.row(&row), taken(0)))
 }
 
 /// A receiver with `used` records in use: rows of four that start at every third position, of which two in three are missing.
 fn waiting(n: usize, k: usize, used: usize, p: usize) -> (Receiver, Stretch) {
-    let (mut receiver, stretch) = filled(4, 4, p, n, k, &|i| (i % 3 != 2 && i < 3 * used + 1) || i == n - 1);
+    let (mut receiver, stretch) = filled(Stretch::full(p), 4, 4, n, k, &|i| (i % 3 != 2 && i < 3 * used + 1) || i == n - 1);
     for i in 0..used {
         assert_eq!(receiver.row(&parity(&stretch, 4, 4, true, 3 * i)), taken(0));
     }
@@ -161,7 +171,7 @@ fn finds_none(n: usize, k: usize, used: usize, p: usize) -> f64 {
 
 /// A datagram that is refused by its length, after the store was found in order.
 fn refuses(n: usize, k: usize) -> f64 {
-    let (mut receiver, _) = filled(10, 10, 188, n, k, &|_| false);
+    let (mut receiver, _) = filled(Stretch::full(188), 10, 10, n, k, &|_| false);
     let short = [0u8; 11];
     median(
         1001,
@@ -178,7 +188,7 @@ fn main() {
     println!("a media packet in good weather, each packet of the window in turn, L 10, D 10");
     for (n, k, p) in [(200, 40, 1316), (100, 40, 1316), (400, 40, 1316), (200, 10, 1316), (200, 128, 1316), (200, 40, 188), (200, 40, 752)]
     {
-        let (each, copy) = good_weather(n, k, p);
+        let (each, copy) = good_weather(n, k, Stretch::full(p));
         println!("  n {n:3}, K {k:3}, P {p:4}   {each:7.0} ns   memcpy of the payloads {copy:5.0} ns   {:.1} times", each / copy);
     }
     println!("\na media packet that rebuilds nothing, into a cold copy of the store, L 4, D 4, P 1316; a row parity packet that finds none missing");
@@ -187,7 +197,7 @@ fn main() {
     }
     println!("\na media packet that rebuilds one other, n 100, K 40");
     for (na, p) in [(5, 1316), (10, 1316), (20, 1316), (10, 188)] {
-        println!("  NA {na:2}, P {p:4}          {:7.0} ns", rebuilds_one(na, p));
+        println!("  NA {na:2}, P {p:4}          {:7.0} ns", rebuilds_one(na, Stretch::full(p)));
     }
     println!("\na late media packet that sets off a chain of rebuilds, n 400, K 128, NA 4");
     for (chain, p) in [(10, 1316), (100, 1316), (100, 188)] {
@@ -202,6 +212,11 @@ fn main() {
     for (n, k) in [(200, 40), (400, 40), (200, 128)] {
         println!("  n {n:3}, K {k:3}          {:7.0} ns", refuses(n, k));
     }
+    println!("\npayloads of one to seven transport packets, P 1316");
+    let (each, copy) = good_weather(200, 40, Stretch::mixed(1316));
+    println!("  good weather, n 200, K 40  {each:7.0} ns   memcpy of the payloads {copy:5.0} ns   {:.1} times", each / copy);
+    println!("  rebuilds one other, NA 10  {:7.0} ns", rebuilds_one(10, Stretch::mixed(1316)));
+    println!("  20 parity packets, 10 x 10 {:7.0} ns", writes(&filled(Stretch::mixed(1316), 10, 10, 100, 40, &|_| false).0));
     // Last: ISA-L leaves the upper halves of the vector registers in use, and code without AVX is slower after it.
     println!();
     writing();

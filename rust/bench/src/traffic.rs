@@ -1,11 +1,22 @@
 //! A stretch of media packets, and the datagrams of it.
 
 pub struct Stretch {
-    pub base: u16,
+    base: u16,
+    /// P, the largest payload.
     pub payload: usize,
+    /// Payloads of one transport packet up to P; else each has P bytes.
+    mixed: bool,
 }
 
 impl Stretch {
+    pub fn full(payload: usize) -> Stretch {
+        Stretch { base: 65_500, payload, mixed: false }
+    }
+
+    pub fn mixed(payload: usize) -> Stretch {
+        Stretch { base: 65_500, payload, mixed: true }
+    }
+
     pub fn number(&self, i: usize) -> u16 {
         self.base.wrapping_add(i as u16)
     }
@@ -14,8 +25,17 @@ impl Stretch {
         3003 * i as u32
     }
 
+    fn size(&self, i: usize) -> usize {
+        let unit = if self.payload % 188 == 0 { 188 } else { 204 };
+        if self.mixed {
+            unit * (1 + (5 * i + 2) % (self.payload / unit))
+        } else {
+            self.payload
+        }
+    }
+
     pub fn payload(&self, i: usize) -> Vec<u8> {
-        (0..self.payload).map(|j| (i * 31 + j * 7 + (i * j >> 6)) as u8).collect()
+        (0..self.size(i)).map(|j| (i * 31 + j * 7 + (i * j >> 6)) as u8).collect()
     }
 }
 
@@ -40,11 +60,11 @@ pub fn parity(s: &Stretch, l: usize, d: usize, row: bool, start: usize) -> Vec<u
     let odd = na % 2 == 1;
     let mut g = rtp(96, 0, 0);
     g.extend(s.number(start).to_be_bytes());
-    g.extend(if odd { s.payload as u16 } else { 0 }.to_be_bytes());
+    g.extend(group.iter().fold(0, |t, i| t ^ s.size(*i) as u16).to_be_bytes());
     g.extend([0x80 | if odd { 33 } else { 0 }, 0, 0, 0]);
     g.extend(group.iter().fold(0, |t, i| t ^ s.stamp(*i)).to_be_bytes());
     g.extend([if row { 0x40 } else { 0 }, offset as u8, na as u8, 0]);
-    let mut sum = vec![0; s.payload];
+    let mut sum = vec![0; group.iter().map(|i| s.size(*i)).max().unwrap_or(0)];
     for i in group {
         sum.iter_mut().zip(s.payload(i)).for_each(|(a, b)| *a ^= b);
     }
