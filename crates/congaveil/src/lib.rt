@@ -1,6 +1,11 @@
-// The library for cards in C and Rust: the calls of document 01 over what a card lends, its records a table.
+// The library for cards in C and Rust: the calls of document 01 over what a card lends, its records a table; and capture files.
 // Every call ends on every input; a refused one gives back its number and changes nothing that was lent.
 // The records in use are gathered into a hand: few of them into a small array, more into a large one, which is made only then.
+use capture::Header;
+use capture::Line;
+use capture::Reader;
+use capture::Reading;
+use capture::Written;
 use face::Reply;
 use window::Record;
 use window::Window;
@@ -9,6 +14,7 @@ ghost use Rattle.window.specs.Store.{stored};
 ghost use Rattle.rtp.specs.Fec.{column, row};
 ghost use Rattle.calls.specs.Call.{asked, opened, offeredMedia, offeredParity, readOut, wroteParity};
 ghost use Rattle.face.specs.Reply.{replied, filled};
+ghost use Rattle.capture.specs.Calls.{readOn, headerRead, entryRead, wrote};
 
 // Opens a window over n positions from a base number; all that it needs of the store is set to zero.
 #[no_mangle]
@@ -317,4 +323,49 @@ pub extern "C" fn cgv_write_row(
         records.len(),
         out,
     )
+}
+
+// ---- capture files
+
+// Reads on: a piece more of a capture file, of any length and cut anywhere. A reading starts with a reader of zeros.
+#[no_mangle]
+pub extern "C" fn cgv_capture_read(r: Reader, piece: &[u8]) -> Reading
+    ensures { λ q. ⌜ q ≡ readOn r (now (piece .entry)) ⌝ }
+{
+    capture::read(r, piece)
+}
+
+// The header of a capture file, of the front of it.
+#[no_mangle]
+pub extern "C" fn cgv_capture_header(front: &[u8]) -> Header
+    ensures { λ r. ⌜ r ≡ headerRead (now (front .entry)) ⌝ }
+{
+    capture::header_of(front)
+}
+
+// Entry i of a capture file, of the front of it.
+#[no_mangle]
+pub extern "C" fn cgv_capture_entry(front: &[u8], i: usize) -> Line
+    ensures { λ r. ⌜ r ≡ entryRead (now (front .entry)) i ⌝ }
+{
+    capture::entry_of(front, i)
+}
+
+// Writes a capture file of what a card lends; the count is of bytes written.
+#[no_mangle]
+pub extern "C" fn cgv_capture_write(
+    base: u16,
+    l: usize,
+    d: usize,
+    p: usize,
+    n: usize,
+    k: usize,
+    ports: &[u8],
+    lengths: &[u16],
+    bodies: &[u8],
+    out: &mut [u8],
+) -> Written
+    ensures { λ r. ⌜ record { written = r; out = now (out .exit) } ≡ wrote (record { base = base; l = l; d = d; p = p; n = n; k = k; ports = now (ports .entry); lengths = now (lengths .entry); bodies = now (bodies .entry) }) (now (out .entry)) ⌝ }
+{
+    capture::write(base, l, d, p, n, k, ports, lengths, bodies, out)
 }

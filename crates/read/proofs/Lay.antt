@@ -1,31 +1,16 @@
--- A datagram laid down in a lent output, payload first and then the headers in front of it. Assumes nothing.
-use mathlib.Core.Path.{_≡_, refl, sym, ap, ap₂, _∙_}
+-- The payload of a datagram as it is laid down, and whether a packet of a group is missing. Assumes nothing.
+use mathlib.Core.Path.{_≡_, refl, sym, ap, _∙_}
 use mathlib.Core.Bool.{Bool, true, false, not}
-use mathlib.Core.List.{List, [], _∷_, _++_, append-assoc}
-use Prim.Native.Nat.{ℕ, zero, suc, _+_, _≤_}
-use native.Mathlib.Nat.{zero-add}
+use mathlib.Core.List.{List, [], _∷_}
+use Prim.Native.Nat.{ℕ, zero, suc, _≤_}
 use native.Mathlib.Omega.{arith}
 use lib.Dec.{ltb}
-use lib.ListN.{length, take, drop, length-append}
-use lib.Seq.{paste, sets, sets-eq, length-paste, length-take-le, drop-at}
+use lib.ListN.{length, take}
+use lib.Seq.{length-take-le}
 use borrow.Author.Tests.{lt-ltb, le-ltb}
 use Rattle.sequence.specs.Lists.{any, keep, count, or-split, any-count}
 use Rattle.xor.specs.Xor.{padded}
 use Rattle.xor.specs.Padded.{padded-front}
-use Rattle.calls.specs.Call.{over}
-
--- p elements of y pasted behind n places, and the n elements of h put there
-pub laid : (h y out : List ℕ) (n p : ℕ) → length h ≡ n → n + p ≤ length out → p ≤ length y → sets (paste out n y p) 0 h ≡ over (h ++ take p y) out
-laid h y out n p eh ho hy =
-    let l = length-paste out n y p ho hy in
-    let head : length (take n out) ≡ n = length-take-le n out (omega arith) in
-    let front : drop n (paste out n y p) ≡ take p y ++ drop (n + p) out = rw append-assoc (drop-at (take n out) (take p y ++ drop (n + p) out) n head) in
-    let size : length (h ++ take p y) ≡ n + p = length-append h (take p y) ∙ ap₂ _+_ eh (length-take-le p y hy) in
-    sets-eq h (paste out n y p) 0 (omega arith)
-    ∙ ap (λ (k : ℕ). h ++ drop k (paste out n y p)) (zero-add (length h) ∙ eh)
-    ∙ ap (λ (t : List ℕ). h ++ t) front
-    ∙ sym (append-assoc h (take p y) (drop (n + p) out))
-    ∙ ap (λ (k : ℕ). h ++ take p y ++ drop k out) (sym size)
 
 -- the front of a payload that was given zeros up to p bytes
 pub front : (n p : ℕ) (y : List ℕ) → n ≤ p → n ≤ length y → take n y ≡ take n (padded p (take n y))

@@ -29,7 +29,8 @@ use Rattle.table.specs.View.{Row, scatter}
 use Rattle.table.specs.Apart.{length-scatter}
 use Rattle.order.specs.Stands.{Taken, Stands, Stood}
 use Rattle.read.specs.Tests.{sizes, groupTests}
-use Rattle.read.proofs.Lay.{laid, front, keep-all}
+use Rattle.xor.specs.Laid.{laid}
+use Rattle.read.proofs.Lay.{front, keep-all}
 
 -- a call that is refused leaves the output
 abbrev pub no : ℕ → Window → List ℕ → Written
