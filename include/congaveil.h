@@ -32,7 +32,8 @@
  *   - A call that may write the store (cgv_open, cgv_media, cgv_column, cgv_row) is alone
  *     on that store. Calls that only read it (cgv_read, cgv_write_column, cgv_write_row
  *     and the helpers here that take a const receiver) may run side by side, each with an
- *     output of its own. Calls on different stores never meet.
+ *     output of its own. Calls on different stores never meet. The calls of capture files
+ *     take no store; they read what they are lent and write the output alone.
  * Nothing is asked of what the buffers and datagrams hold: no packet needs vetting first.
  *
  * Lengths
@@ -94,6 +95,8 @@
  *   17         routine when reading: the packet is missing.
  *   6 to 12    a datagram of another kind, port or profile, or a damaged one.
  *   1 to 5     a fault in the card: set-up, buffers, or a store that somebody changed.
+ *   21         of a capture file alone: it is not a proper one, or what was to be written
+ *              would not be.
  * A refused call gives a count of 0 and has written to none of the buffers. It hands back
  * the window value that it was given; a refused opening gives a window value of zeros,
  * which every other call refuses with 1.
@@ -117,6 +120,29 @@
  *   Windows end to end cut the groups that cross a seam, unless each starts where a matrix
  *   starts: of some 4,000 packets lost (10 x 10, n 400, 2 % lost, joined in mid-matrix)
  *   274 stayed missing end to end, and 6 with the overlap.
+ *
+ * Capture files (examples/card.c; tools/capture-from-pcap makes one of a pcap)
+ *   What a card saw, to be replayed elsewhere: the set-up of a window, and up to 512
+ *   datagrams in the order in which they came, each with its port. Numbers are big-endian.
+ *     header      12 bytes: entry count (2), L, D (1 each), P, base, n, K (2 each)
+ *     table       8 bytes an entry: port (1), a zero (1), length (2), and start (4), which
+ *                 counts from the file's first byte
+ *     bodies      in the order of the table, no gaps, nothing after; 1,500 bytes each at most
+ *   No entries and empty bodies are proper. One content has one file.
+ *   Saving: keep the port of each datagram that came, its length, and its bytes behind those
+ *   of the one before; cgv_capture_write makes the file of these three.
+ *   Judging: a file in memory is one piece, and whole where the answer is 0. One that is too
+ *   large for that is read in pieces, cut anywhere, the reader of an answer going into the
+ *   next call; it is whole where the last answer is 0.
+ *   Walking: cgv_capture_header and cgv_capture_entry need only the front of a file, 4,108
+ *   bytes at most. They judge nothing: ask cgv_capture_read first.
+ *
+ *     static const struct cgv_reader start = CGV_CAPTURE_START;
+ *     if (cgv_capture_read(start, file, len).number == CGV_DONE)
+ *         for (i = 0; i < cgv_capture_header(file, len).count; i++) {
+ *             struct cgv_entry e = cgv_capture_entry(file, len, i);
+ *             offer(e.port, cgv_capture_body(file, len, e), e.length);
+ *         }
  */
 #ifndef CONGAVEIL_H
 #define CONGAVEIL_H
@@ -141,6 +167,10 @@
 #define CGV_PARITY_HEADER 28   /* RTP header and parity header */
 #define CGV_MEDIA_DATAGRAM_MAX (CGV_MEDIA_HEADER + CGV_PAYLOAD_MAX)
 #define CGV_PARITY_DATAGRAM_MAX (CGV_PARITY_HEADER + CGV_PAYLOAD_MAX)
+#define CGV_ENTRIES_MAX 512        /* entries of a capture file */
+#define CGV_BODY_MAX 1500          /* bytes of an entry's body */
+#define CGV_CAPTURE_FRONT_MAX 4108 /* header and table: 12 + 512 x 8 */
+#define CGV_CAPTURE_MAX 772108     /* a capture file: 12 + 512 x (8 + 1,500) */
 
 #ifdef __cplusplus
 #define CGV_CAST(type, value) static_cast<type>(value)
@@ -184,6 +214,47 @@ struct cgv_answer {
     struct cgv_window window;
 };
 
+/* Where a datagram came in, as a capture file has it. */
+enum { CGV_PORT_MEDIA = 1, CGV_PORT_COLUMN = 2, CGV_PORT_ROW = 3 };
+
+/* What the header of a capture file says. number: 0, or 21 with all else 0. */
+struct cgv_capture {
+    uint32_t number;
+    uint16_t base;
+    size_t count;    /* entries */
+    size_t l, d, p, n, k;
+};
+
+/* An entry of a capture file. number: 0, or 21 with all else 0. */
+struct cgv_entry {
+    uint32_t number;
+    uint8_t port;
+    size_t start;    /* of its body, counted from the file's first byte */
+    size_t length;   /* of its body */
+};
+
+/* Where the reading of a capture file stands. It starts from CGV_CAPTURE_START; only
+ * cgv_capture_read makes another one. A made-up one counts as refused where its numbers
+ * are out of bounds, and is taken at its word else. */
+struct cgv_reader {
+    uint32_t stage, left, next, sum, at, size;
+};
+#define CGV_CAPTURE_START {0, 0, 0, 0, 0, 0}
+#define CGV_CAPTURE_REFUSED 3 /* the stage of a reader that no further piece helps */
+
+/* number: 0 where all bytes read so far are a whole capture file, else 21. reader: to be
+ * passed to the next call, with the next piece. */
+struct cgv_reading {
+    uint32_t number;
+    struct cgv_reader reader;
+};
+
+/* number: 0 with the count of bytes written, or 21 or 4 with a count of 0. */
+struct cgv_written {
+    uint32_t number;
+    size_t count;
+};
+
 /* The library was compiled for this layout; a compiler that differs stops here. */
 #define CGV_LAYOUT(name, holds) typedef char cgv_layout_##name[(holds) ? 1 : -1]
 CGV_LAYOUT(size_t_has_8_bytes, sizeof(size_t) == 8);
@@ -200,8 +271,19 @@ CGV_LAYOUT(record, sizeof(struct cgv_record) == 12 && offsetof(struct cgv_record
 CGV_LAYOUT(answer, sizeof(struct cgv_answer) == 88 && offsetof(struct cgv_answer, count) == 8 &&
                        offsetof(struct cgv_answer, spoilt) == 16 &&
                        offsetof(struct cgv_answer, window) == 24);
+CGV_LAYOUT(capture, sizeof(struct cgv_capture) == 56 && offsetof(struct cgv_capture, base) == 4 &&
+                        offsetof(struct cgv_capture, count) == 8 && offsetof(struct cgv_capture, l) == 16 &&
+                        offsetof(struct cgv_capture, d) == 24 && offsetof(struct cgv_capture, p) == 32 &&
+                        offsetof(struct cgv_capture, n) == 40 && offsetof(struct cgv_capture, k) == 48);
+CGV_LAYOUT(entry, sizeof(struct cgv_entry) == 24 && offsetof(struct cgv_entry, port) == 4 &&
+                      offsetof(struct cgv_entry, start) == 8 && offsetof(struct cgv_entry, length) == 16);
+CGV_LAYOUT(reader, sizeof(struct cgv_reader) == 24 && offsetof(struct cgv_reader, left) == 4 &&
+                       offsetof(struct cgv_reader, next) == 8 && offsetof(struct cgv_reader, sum) == 12 &&
+                       offsetof(struct cgv_reader, at) == 16 && offsetof(struct cgv_reader, size) == 20);
+CGV_LAYOUT(reading, sizeof(struct cgv_reading) == 28 && offsetof(struct cgv_reading, reader) == 4);
+CGV_LAYOUT(written, sizeof(struct cgv_written) == 16 && offsetof(struct cgv_written, count) == 8);
 
-/* Answers: the first refusal that applies, in this order. */
+/* Answers: the first refusal that applies, in this order; of a capture file 21 comes before 4. */
 enum {
     CGV_DONE = 0,
     CGV_BAD_PROFILE = 1,      /* not 1 <= L <= 20, 4 <= D <= 20, L x D <= 100 */
@@ -220,11 +302,15 @@ enum {
     CGV_REPEAT = 14,          /* already held, the same */
     CGV_DIFFERS = 15,         /* already held, with a difference: on media, the alarm */
     CGV_FULL = 16,            /* two or more are missing and every record is in use */
-    CGV_MISSING = 17          /* reading a missing packet, or writing parity over one */
+    CGV_MISSING = 17,         /* reading a missing packet, or writing parity over one */
+    CGV_BAD_CAPTURE = 21      /* not a proper capture file, or not the content of one */
 };
-#define CGV_NUMBERS 18        /* numbers from 0 to 17 */
+/* How many answers the seven calls on a window have, 0 to 17: the size of a table of them.
+ * 21 is no answer of these. */
+#define CGV_NUMBERS 18
 
-/* ---- the seven calls. The store is lent as six parts, each with its length in elements. */
+/* ---- the seven calls on a window. The store is lent as six parts, each with its length in
+ * elements. */
 
 /* Opens a window: 0, or 1 to 4 with a window value of zeros. All that the window needs of
  * the store is set to zero, so that every packet is missing and every record free. */
@@ -293,6 +379,45 @@ struct cgv_answer cgv_write_row(struct cgv_window w, uint16_t snbase, uint16_t s
                                 const uint8_t *parity, size_t parity_len,
                                 const struct cgv_record *records, size_t records_len,
                                 uint8_t *out, size_t out_len);
+
+/* ---- the four calls of capture files */
+
+/* Reads on: a further piece of a file, of any length, cut anywhere. The number is 0 where
+ * all that was read up to its end is a whole capture file, and 21 else. Once the stage of
+ * the reader is CGV_CAPTURE_REFUSED it stays so: the caller may stop there. */
+struct cgv_reading cgv_capture_read(struct cgv_reader r, const uint8_t *piece, size_t len);
+
+/* The header, from the front of a file: 21 where that has fewer than 12 bytes, or a count
+ * above 512. Nothing else is judged. */
+struct cgv_capture cgv_capture_header(const uint8_t *front, size_t len);
+
+/* Entry i, from 0, from the front of a file: its first bytes, up to the end of line i of the
+ * table or further. 21 where the header is refused, i is not below its count, or the front
+ * ends before that line does. Port, start and length are what stands there: right in a
+ * file that cgv_capture_read found whole, and anything in another one. */
+struct cgv_entry cgv_capture_entry(const uint8_t *front, size_t len, size_t i);
+
+/* Writes a capture file: entry i has port ports[i], and as its body the next lengths[i]
+ * bytes of bodies. 21 where that is not the content of one: ports and lengths of different
+ * number, or more than 512; a port that is not 1 to 3; a length above 1,500; bodies longer
+ * or shorter than the lengths together; L or D above 255; P, n or K above 65,535. Then 4
+ * where out is shorter than the file. A refusal leaves out as it was, and so stays what is
+ * past the end of the file. */
+struct cgv_written cgv_capture_write(uint16_t base, size_t l, size_t d, size_t p, size_t n,
+                                     size_t k, const uint8_t *ports, size_t ports_len,
+                                     const uint16_t *lengths, size_t lengths_len,
+                                     const uint8_t *bodies, size_t bodies_len, uint8_t *out,
+                                     size_t out_len);
+
+/* The body of an entry where it lies in a file, or NULL where the entry was refused or the
+ * body is not within the len bytes there. */
+static inline const uint8_t *cgv_capture_body(const uint8_t *file, size_t len,
+                                              struct cgv_entry e)
+{
+    if (e.number != CGV_DONE || e.start > len || e.length > len - e.start)
+        return NULL;
+    return file + e.start;
+}
 
 /* ---- a store and a window in one, so that a card's code reads well */
 
@@ -476,6 +601,7 @@ static inline const char *cgv_message(uint32_t number)
     case CGV_DIFFERS: return "already held, and different";
     case CGV_FULL: return "no record is free";
     case CGV_MISSING: return "packet missing";
+    case CGV_BAD_CAPTURE: return "not a proper capture file";
     default: return "not a number of this library";
     }
 }

@@ -1,4 +1,4 @@
-/* The C face: every number of document 01 is reached through it, a refusal changes nothing that was lent, and nothing is
+/* The C face: every number of document 01 is reached through it, and 21, a refusal changes nothing that was lent, and nothing is
  * touched past a buffer's need. The buffers come from malloc with not a byte to spare, or with spare elements that are
  * watched; under valgrind a step past either is an error. Prints how many calls were made; exits 1 at the first difference. */
 #include "congaveil.h"
@@ -9,7 +9,7 @@
 enum { L = 4, D = 4, P = 188, N = 16, K = 8, BASE = 65530, SPARE = 5, LONGEST = 3 * P, LARGEST = 4 * P };
 
 static size_t calls, spare, spoilt; /* spoilt: what the next answer must say; then 0 again */
-static int reached[18];
+static int reached[CGV_BAD_CAPTURE + 1];
 
 struct bench {
     struct cgv_receiver r;
@@ -18,7 +18,7 @@ struct bench {
 
 static void *room(size_t bytes)
 {
-    void *p = malloc(bytes);
+    void *p = malloc(bytes ? bytes : 1);
     if (!p)
         exit(2);
     memset(p, 0xA5, bytes);
@@ -171,7 +171,7 @@ typedef struct cgv_answer (*offer_fn)(struct cgv_receiver *, const uint8_t *, si
 static void offers(const char *what, struct bench *b, offer_fn offer, const uint8_t *datagram, size_t len, uint32_t number, size_t count)
 {
     struct cgv_window w = b->r.window;
-    uint8_t *exact = room(len ? len : 1);
+    uint8_t *exact = room(len);
     memcpy(exact, datagram, len);
     copy_store(&b->before, &b->r.store);
     check(what, b, w, offer(&b->r, exact, len), number, count, 1);
@@ -315,7 +315,8 @@ static void helpers(void)
     if (strcmp(version, CGV_VERSION))
         broken("CGV_VERSION");
     if (strcmp(cgv_message(9), "payload not whole transport packets up to the window's size") ||
-        strcmp(cgv_message(11), "payload type recovery not the profile's") || strcmp(cgv_message(18), "not a number of this library") || !strcmp(cgv_message(17), cgv_message(18)))
+        strcmp(cgv_message(11), "payload type recovery not the profile's") || strcmp(cgv_message(18), "not a number of this library") || !strcmp(cgv_message(17), cgv_message(18)) ||
+        strcmp(cgv_message(21), "not a proper capture file") || strcmp(cgv_message(22), cgv_message(18)))
         broken("a number in words");
     opens("opens", &b, L, D, P, N, K, 0);
     offers("taken", &b, cgv_receiver_media, g, media(g, 2), 0, 0);
@@ -705,6 +706,332 @@ static void units_of_204(void)
     end_bench(&b);
 }
 
+/* ---- capture files */
+
+/* The file of the request: one entry for the media port, of two bytes. */
+static const uint8_t example[] = {0, 1, 4, 4, 0, 188, 0xFF, 0xFA, 0, 16, 0, 8, 1, 0, 0, 2, 0, 0, 0, 20, 0xAB, 0xCD};
+
+/* What is to be written, as a caller lends it; the lengths in elements. */
+struct content {
+    uint16_t base;
+    size_t l, d, p, n, k;
+    uint8_t *ports;
+    uint16_t *lengths;
+    uint8_t *bodies;
+    size_t ports_len, lengths_len, bodies_len;
+};
+
+/* So many entries of this length, with ports in turn, in buffers that have not a byte to spare. */
+static struct content new_content(size_t entries, size_t length)
+{
+    struct content c = {BASE, L, D, P, N, K, NULL, NULL, NULL, 0, 0, 0};
+    size_t i;
+    c.ports_len = c.lengths_len = entries;
+    c.bodies_len = entries * length;
+    c.ports = room(entries);
+    c.lengths = room(entries * sizeof *c.lengths);
+    c.bodies = room(c.bodies_len);
+    for (i = 0; i < entries; i++)
+        c.ports[i] = (uint8_t)(1 + i % 3), c.lengths[i] = (uint16_t)length;
+    for (i = 0; i < c.bodies_len; i++)
+        c.bodies[i] = byte_of((uint16_t)length, i);
+    return c;
+}
+
+static void end_content(struct content *c)
+{
+    free(c->ports);
+    free(c->lengths);
+    free(c->bodies);
+}
+
+static struct cgv_written writes_to(const struct content *c, uint8_t *out, size_t out_len)
+{
+    calls++;
+    return cgv_capture_write(c->base, c->l, c->d, c->p, c->n, c->k, c->ports, c->ports_len, c->lengths, c->lengths_len, c->bodies,
+                             c->bodies_len, out, out_len);
+}
+
+/* A content that is refused, with room for it and without. */
+static void no_content(const char *what, const struct content *c)
+{
+    uint8_t out[64];
+    size_t len, i;
+    memset(out, 0xA5, sizeof out);
+    for (len = 0; len <= sizeof out; len += sizeof out) {
+        struct cgv_written w = writes_to(c, out, len);
+        if (w.number != CGV_BAD_CAPTURE || w.count)
+            broken(what);
+    }
+    for (i = 0; i < sizeof out; i++)
+        if (out[i] != 0xA5)
+            broken("a refusal wrote to the output");
+    reached[CGV_BAD_CAPTURE] = 1;
+}
+
+/* The file of a content, with not a byte to spare; with one byte less it is refused, and bytes to spare stay as they are. */
+static uint8_t *file_of(const struct content *c, size_t len)
+{
+    uint8_t *out = room(len + spare), *shorter = room(len);
+    struct cgv_written w = writes_to(c, out, len + spare);
+    size_t i;
+    if (w.number != CGV_DONE || w.count != len)
+        broken("a file is written");
+    for (i = 0; i < spare; i++)
+        if (out[len + i] != 0xA5)
+            broken("the output past a file");
+    w = writes_to(c, shorter, len - 1);
+    if (w.number != CGV_SHORT_BUFFER || w.count)
+        broken("an output that is a byte too short");
+    for (i = 0; i < len; i++)
+        if (shorter[i] != 0xA5)
+            broken("a short output was written");
+    free(shorter);
+    return out;
+}
+
+/* The answer to a file that is read in pieces of this size, each in a buffer of its own. */
+static uint32_t read_by(const uint8_t *file, size_t len, size_t size)
+{
+    struct cgv_reading a = {CGV_DONE, CGV_CAPTURE_START};
+    size_t at = 0, piece;
+    do {
+        int refused = a.reader.stage == CGV_CAPTURE_REFUSED;
+        piece = len - at < size ? len - at : size;
+        {
+            uint8_t *exact = room(piece);
+            memcpy(exact, file + at, piece);
+            a = cgv_capture_read(a.reader, exact, piece);
+            free(exact);
+        }
+        at += piece;
+        calls++;
+        if (refused && (a.number != CGV_BAD_CAPTURE || a.reader.stage != CGV_CAPTURE_REFUSED))
+            broken("a refused reading that goes on");
+    } while (at < len);
+    if (a.number == CGV_DONE && a.reader.stage == CGV_CAPTURE_REFUSED)
+        broken("a whole file in a refused stage");
+    return a.number;
+}
+
+/* A file is judged alike in one piece, byte by byte and in pieces of seven. */
+static void judged(const char *what, const uint8_t *file, size_t len, uint32_t number)
+{
+    if (read_by(file, len, len) != number || read_by(file, len, 1) != number || read_by(file, len, 7) != number)
+        broken(what);
+}
+
+/* An entry from a front of just so many bytes. */
+static struct cgv_entry entry_of(const uint8_t *file, size_t len, size_t i)
+{
+    uint8_t *front = room(len);
+    struct cgv_entry e;
+    memcpy(front, file, len);
+    e = cgv_capture_entry(front, len, i);
+    free(front);
+    calls++;
+    return e;
+}
+
+static int no_header(struct cgv_capture h)
+{
+    return h.number == CGV_BAD_CAPTURE && !h.base && !h.count && !h.l && !h.d && !h.p && !h.n && !h.k;
+}
+
+static int no_entry(struct cgv_entry e) { return e.number == CGV_BAD_CAPTURE && !e.port && !e.start && !e.length; }
+
+/* Every entry of a file is the content's: from a front that ends with its line, and from the whole file; a byte less is refused. */
+static void walked(const struct content *c, const uint8_t *file, size_t len)
+{
+    struct cgv_capture h = cgv_capture_header(file, 12);
+    size_t i, start = 0, line;
+    calls++;
+    if (h.number != CGV_DONE || h.count != c->ports_len || h.base != c->base || h.l != c->l || h.d != c->d || h.p != c->p || h.n != c->n ||
+        h.k != c->k)
+        broken("the header of a file");
+    for (i = 0; i < c->ports_len; i++) {
+        struct cgv_entry e = cgv_capture_entry(file, len, i);
+        line = 12 + 8 * (i + 1);
+        if (e.number != CGV_DONE || e.port != c->ports[i] || e.length != c->lengths[i] || e.start != 12 + 8 * c->ports_len + start)
+            broken("an entry of a file");
+        if (memcmp(cgv_capture_body(file, len, e), c->bodies + start, e.length))
+            broken("the body of an entry");
+        if (entry_of(file, line, i).start != e.start || !no_entry(entry_of(file, line - 1, i)))
+            broken("an entry of the front of a file");
+        start += e.length;
+        calls++;
+    }
+    if (!no_entry(entry_of(file, len, i)) || !no_entry(entry_of(file, len, SIZE_MAX)) || !no_entry(entry_of(file, len, SIZE_MAX / 8 + 1)))
+        broken("an entry past the last");
+}
+
+/* The request's example both ways, cut anywhere and with each byte another one. */
+static void example_file(void)
+{
+    struct content c = new_content(1, 2);
+    uint8_t *file, wrong[sizeof example + 1];
+    size_t i;
+    c.bodies[0] = 0xAB, c.bodies[1] = 0xCD;
+    file = file_of(&c, sizeof example);
+    if (memcmp(file, example, sizeof example))
+        broken("the example of the request");
+    walked(&c, file, sizeof example);
+    for (i = 0; i < sizeof example; i++)
+        judged("a file that is cut", example, i, CGV_BAD_CAPTURE);
+    judged("the example", example, sizeof example, CGV_DONE);
+    for (i = 0; i < sizeof example; i++) {
+        int any = (i >= 2 && i < 12) || i >= 20 || i == 12; /* set-up and body may be anything, and the port is 2 */
+        memcpy(wrong, example, sizeof example);
+        wrong[i] ^= 3;
+        judged("a byte that is another one", wrong, sizeof example, any ? CGV_DONE : CGV_BAD_CAPTURE);
+    }
+    memcpy(wrong, example, sizeof example);
+    wrong[sizeof example] = 0;
+    judged("a byte after the last body", wrong, sizeof wrong, CGV_BAD_CAPTURE);
+    for (i = 0; i < 256; i++) {
+        wrong[12] = (uint8_t)i;
+        judged("a port", wrong, sizeof example, i >= 1 && i <= 3 ? CGV_DONE : CGV_BAD_CAPTURE);
+    }
+    free(file);
+    end_content(&c);
+}
+
+/* What is not the content of a file: each limit from both sides. */
+static void contents(void)
+{
+    struct content c = new_content(2, 3), good = c;
+    size_t i, *sizes[] = {&c.l, &c.d, &c.p, &c.n, &c.k};
+    for (i = 0; i < 5; i++) {
+        size_t most = i < 2 ? 255 : 65535;
+        uint8_t *file;
+        *sizes[i] = most;
+        file = file_of(&c, 34);
+        walked(&c, file, 34);
+        free(file);
+        *sizes[i] = most + 1;
+        no_content("a number that its field cannot hold", &c);
+        *sizes[i] = SIZE_MAX;
+        no_content("the highest number", &c);
+        c = good;
+    }
+    c.ports[1] = 0;
+    no_content("port 0", &c);
+    c.ports[1] = 4;
+    no_content("port 4", &c);
+    c.ports[1] = 2;
+    for (c.bodies_len = 3; c.bodies_len <= 6; c.bodies_len += 3) {
+        c.ports_len = 1, c.lengths_len = 2;
+        no_content("a port less than lengths", &c);
+        c.ports_len = 2, c.lengths_len = 1;
+        no_content("a length less than ports", &c);
+    }
+    c = good;
+    c.lengths[1] = 4;
+    no_content("bodies a byte too short", &c);
+    c.lengths[1] = 2;
+    no_content("bodies a byte too long", &c);
+    end_content(&c);
+}
+
+/* Files of this many entries of this length: written and read back, or refused. */
+static void sizes(size_t entries, size_t length, int good)
+{
+    struct content c = new_content(entries, length);
+    size_t len = 12 + entries * (8 + length);
+    if (good) {
+        uint8_t *file = file_of(&c, len);
+        if (read_by(file, len, len) || read_by(file, len, 4096))
+            broken("a file that was written is whole");
+        walked(&c, file, len);
+        free(file);
+    } else
+        no_content("more entries, or a longer body, than a file has", &c);
+    end_content(&c);
+}
+
+/* Files that nobody wrote: too many entries, a body too long, starts with a gap; and fronts that are too short for a header. */
+static void bad_files(void)
+{
+    struct cgv_reader start = CGV_CAPTURE_START;
+    uint8_t *many = room(12 + 513 * 8), file[12 + 16 + 1501];
+    size_t i, len;
+    memset(many, 0, 12);
+    many[0] = 2, many[1] = 1;
+    for (i = 0; i < 513; i++) {
+        const uint8_t line[8] = {1, 0, 0, 0, 0, 0, (uint8_t)((12 + 513 * 8) >> 8), (uint8_t)(12 + 513 * 8)};
+        memcpy(many + 12 + 8 * i, line, sizeof line);
+    }
+    judged("513 entries", many, 12 + 513 * 8, CGV_BAD_CAPTURE);
+    if (!no_header(cgv_capture_header(many, 12)) || !no_entry(entry_of(many, 12 + 513 * 8, 0)))
+        broken("the header of 513 entries");
+    free(many);
+    for (i = 0; i < 12; i++) {
+        uint8_t *front = room(i);
+        memcpy(front, example, i);
+        if (!no_header(cgv_capture_header(front, i)))
+            broken("a front without a header");
+        free(front);
+    }
+    memset(file, 0, sizeof file);
+    memcpy(file, example, 12);
+    for (len = 1500; len <= 1501; len++) { /* two entries: of this length, and empty */
+        const uint8_t lines[16] = {1, 0, (uint8_t)(len >> 8), (uint8_t)len, 0, 0, 0, 28, 2, 0, 0, 0, 0, 0, (uint8_t)((28 + len) >> 8), (uint8_t)(28 + len)};
+        file[1] = 2;
+        memcpy(file + 12, lines, sizeof lines);
+        judged("the longest body, and one that is longer", file, 28 + len, len == 1500 ? CGV_DONE : CGV_BAD_CAPTURE);
+    }
+    file[14] = 0, file[15] = 1, file[27] = 29, file[26] = 0;
+    judged("a body of a byte", file, 29, CGV_DONE);
+    file[27] = 28;
+    judged("bodies that overlap", file, 29, CGV_BAD_CAPTURE);
+    file[27] = 30;
+    judged("bodies with a gap", file, 30, CGV_BAD_CAPTURE);
+    start.stage = CGV_CAPTURE_REFUSED;
+    if (cgv_capture_read(start, example, sizeof example).number != CGV_BAD_CAPTURE)
+        broken("a refused reader");
+    start.stage = UINT32_MAX;
+    if (cgv_capture_read(start, example, sizeof example).reader.stage != CGV_CAPTURE_REFUSED)
+        broken("a reader of no stage");
+}
+
+/* A body is given only where it lies within the file. */
+static void bodies(void)
+{
+    struct cgv_entry e = {CGV_DONE, 1, 20, 2};
+    if (cgv_capture_body(example, sizeof example, e) != example + 20 || cgv_capture_body(example, sizeof example - 1, e))
+        broken("the body of an entry where it lies");
+    e.length = 0, e.start = sizeof example;
+    if (cgv_capture_body(example, sizeof example, e) != example + sizeof example || cgv_capture_body(example, sizeof example - 1, e))
+        broken("an empty body at the end");
+    e.length = SIZE_MAX, e.start = 20;
+    if (cgv_capture_body(example, sizeof example, e))
+        broken("a body of the highest length");
+    e.start = SIZE_MAX, e.length = 20;
+    if (cgv_capture_body(example, sizeof example, e))
+        broken("a body from the highest start");
+    e.start = 20, e.length = 2, e.number = CGV_BAD_CAPTURE;
+    if (cgv_capture_body(example, sizeof example, e))
+        broken("the body of a refused entry");
+}
+
+static void captures(void)
+{
+    if (CGV_CAPTURE_FRONT_MAX != 12 + 8 * CGV_ENTRIES_MAX || CGV_CAPTURE_MAX != CGV_CAPTURE_FRONT_MAX + CGV_ENTRIES_MAX * CGV_BODY_MAX)
+        broken("the sizes of a capture file");
+    example_file();
+    contents();
+    bad_files();
+    bodies();
+    sizes(0, 0, 1);
+    sizes(3, 0, 1);
+    sizes(1, CGV_BODY_MAX, 1);
+    sizes(1, CGV_BODY_MAX + 1, 0);
+    sizes(1, 65535, 0);
+    sizes(CGV_ENTRIES_MAX, 0, 1);
+    sizes(CGV_ENTRIES_MAX + 1, 0, 0);
+    sizes(CGV_ENTRIES_MAX, CGV_BODY_MAX, 1);
+}
+
 int main(void)
 {
     uint32_t number;
@@ -723,12 +1050,13 @@ int main(void)
         kept_lengths();
         units_of_204();
         largest = P;
+        captures();
     }
-    for (number = 0; number <= 17; number++)
-        if (!reached[number]) {
+    for (number = 0; number <= CGV_BAD_CAPTURE; number++)
+        if (!reached[number] && (number < CGV_NUMBERS || number == CGV_BAD_CAPTURE)) {
             fprintf(stderr, "number %u was not reached: %s\n", (unsigned)number, cgv_message(number));
             return 1;
         }
-    printf("C face: %zu calls as they must be, every number from 0 to 17\n", calls);
+    printf("C face: %zu calls as they must be, every number from 0 to 17, and 21\n", calls);
     return 0;
 }

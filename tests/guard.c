@@ -22,10 +22,12 @@
 #include <unistd.h>
 
 enum { PAGE = 4096, MOST = 140 * PAGE, CLAIM = 1000, STACK = 64 * 1024, STACK_MAX = 8 * 1024 };
-enum { OPEN, MEDIA, COLUMN, ROW, READ, WRITE_COLUMN, WRITE_ROW, KINDS };
-static const char *const names[KINDS] = {"cgv_open", "cgv_media", "cgv_column", "cgv_row", "cgv_read", "cgv_write_column", "cgv_write_row"};
+enum { OPEN, MEDIA, COLUMN, ROW, READ, WRITE_COLUMN, WRITE_ROW, FILE_READ, FILE_HEADER, FILE_ENTRY, FILE_WRITE, KINDS };
+static const char *const names[KINDS] = {"cgv_open", "cgv_media", "cgv_column", "cgv_row", "cgv_read", "cgv_write_column", "cgv_write_row",
+                                         "cgv_capture_read", "cgv_capture_header", "cgv_capture_entry", "cgv_capture_write"};
 
 static unsigned long long calls, windows, seed, numbers[CGV_NUMBERS], helpers, claims, spoilt;
+static unsigned long long files[KINDS][CGV_BAD_CAPTURE + 1]; /* calls of capture files, by their answer */
 static const char *doing = "setting up";
 
 static void fail(const char *what)
@@ -133,15 +135,42 @@ static void same_as_plain(const struct part *b)
 
 struct call {
     int kind;
-    struct cgv_window w; /* or the set-up, for an opening */
-    struct cgv_store s;
-    const uint8_t *datagram;
+    struct cgv_window w; /* or the set-up, for an opening or a capture file */
+    struct cgv_store s;  /* to write a capture file: the ports are its marks, the bodies its media */
+    const uint8_t *datagram; /* or a piece of a capture file, or its front */
     size_t len;
-    uint16_t number;
+    uint16_t number; /* or the index of an entry */
+    struct cgv_reader reader;
     uint8_t *out;
     size_t out_len;
     struct cgv_answer a;
+    uint64_t said[8]; /* the answer of a capture file: its number, and what else it says */
 };
+
+/* Apart, so that the other calls are measured without its frame. */
+__attribute__((noinline)) static void make_of_file(struct call *c)
+{
+    struct cgv_window w = c->w;
+    if (c->kind == FILE_READ) {
+        struct cgv_reading a = cgv_capture_read(c->reader, c->datagram, c->len);
+        uint64_t said[8] = {a.number, a.reader.stage, a.reader.left, a.reader.next, a.reader.sum, a.reader.at, a.reader.size, 0};
+        c->reader = a.reader;
+        memcpy(c->said, said, sizeof said);
+    } else if (c->kind == FILE_HEADER) {
+        struct cgv_capture a = cgv_capture_header(c->datagram, c->len);
+        uint64_t said[8] = {a.number, a.base, a.count, a.l, a.d, a.p, a.n, a.k};
+        memcpy(c->said, said, sizeof said);
+    } else if (c->kind == FILE_ENTRY) {
+        struct cgv_entry a = cgv_capture_entry(c->datagram, c->len, c->number);
+        uint64_t said[8] = {a.number, a.port, a.start, a.length, 0, 0, 0, 0};
+        memcpy(c->said, said, sizeof said);
+    } else {
+        struct cgv_written a = cgv_capture_write(w.base, w.l, w.d, w.p, w.n, w.k, c->s.marks, c->s.marks_len, c->s.lengths, c->s.lengths_len,
+                                                 c->s.media, c->s.media_len, c->out, c->out_len);
+        uint64_t said[8] = {a.number, a.count, 0, 0, 0, 0, 0, 0};
+        memcpy(c->said, said, sizeof said);
+    }
+}
 
 static void make(struct call *c)
 {
@@ -153,7 +182,8 @@ static void make(struct call *c)
     case ROW: c->a = cgv_row(w, c->datagram, c->len, CGV_STORE_ARGUMENTS(c->s)); break;
     case READ: c->a = cgv_read(w, c->number, CGV_STORE_ARGUMENTS(c->s), c->out, c->out_len); break;
     case WRITE_COLUMN: c->a = cgv_write_column(w, c->number, 1, 2, 3, CGV_STORE_ARGUMENTS(c->s), c->out, c->out_len); break;
-    default: c->a = cgv_write_row(w, c->number, 1, 2, 3, CGV_STORE_ARGUMENTS(c->s), c->out, c->out_len); break;
+    case WRITE_ROW: c->a = cgv_write_row(w, c->number, 1, 2, 3, CGV_STORE_ARGUMENTS(c->s), c->out, c->out_len); break;
+    default: make_of_file(c); break;
     }
 }
 
@@ -492,6 +522,174 @@ static void step(void)
         change(at, part, by);
 }
 
+/* ---- capture files */
+
+static uint8_t file[MOST];
+static size_t file_len;
+static volatile uint8_t kept; /* what was read of bodies, so that it is read */
+
+/* Makes a call of a capture file in plain memory and then between the pages; both must say the same. Nothing is written but the
+ * output of one that is not refused. */
+static void attack_file(struct call *c)
+{
+    struct cgv_reader reader = c->reader;
+    struct part *out = &parts[P_OUT];
+    uint64_t said[8];
+    size_t i;
+    doing = names[c->kind];
+    calls++;
+    c->datagram = parts[P_DATAGRAM].plain;
+    c->s = store_in(2, honest);
+    c->out = out->plain;
+    make(c);
+    memcpy(said, c->said, sizeof said);
+    c->reader = reader;
+    c->datagram = parts[P_DATAGRAM].at[1];
+    c->s = store_in(1, honest);
+    c->out = out->at[said[0] != CGV_DONE];
+    make_on_stack(c);
+    if (memcmp(c->said, said, sizeof said))
+        fail("another answer than in plain memory");
+    if (said[0] != CGV_DONE && said[0] != CGV_BAD_CAPTURE && (said[0] != CGV_SHORT_BUFFER || c->kind != FILE_WRITE))
+        fail("a number that is none of a capture file");
+    for (i = 1; i < 8 && said[0] && c->kind != FILE_READ; i++)
+        if (said[i])
+            fail("a refusal that says more");
+    if (c->kind == FILE_WRITE)
+        same_as_plain(out);
+    files[c->kind][said[0]]++;
+#ifdef FUZZ
+    met[(c->kind * CGV_NUMBERS + (said[0] != CGV_DONE)) * 8] = 1;
+#endif
+}
+
+/* Lays bytes in the place of the datagram. */
+static void lay_bytes(const uint8_t *from, size_t len)
+{
+    place(&parts[P_DATAGRAM], len, one_in(2));
+    memcpy(parts[P_DATAGRAM].at[0], from, len);
+    memcpy(parts[P_DATAGRAM].plain, from, len);
+}
+
+/* Lays ports, lengths and bodies, proper ones or with a fault; the bytes of the bodies together. */
+static size_t lay_content(void)
+{
+    static const uint16_t edges[] = {0, 1, 1499, 1500};
+    size_t entries = one_in(16) ? pick(511, 513) : (size_t)draw(12), sum = 0, i;
+    uint16_t length;
+    place(&parts[P_MARKS], honest[P_MARKS] = entries - (entries && one_in(16)), one_in(2));
+    place(&parts[P_LENGTHS], 2 * entries, one_in(2));
+    honest[P_LENGTHS] = entries;
+    for (i = 0; i < entries; i++) {
+        length = (uint16_t)(one_in(400) ? draw(65536) : one_in(4) ? edges[draw(4)] : draw(40));
+        length = sum + length > MOST / 2 ? 0 : length;
+        sum += length;
+        memcpy(parts[P_LENGTHS].at[0] + 2 * i, &length, sizeof length);
+        memcpy(parts[P_LENGTHS].plain + 2 * i, &length, sizeof length);
+    }
+    for (i = 0; i < honest[P_MARKS]; i++)
+        parts[P_MARKS].at[0][i] = parts[P_MARKS].plain[i] = (uint8_t)(one_in(400) ? draw(256) : pick(1, 3));
+    place(&parts[P_MEDIA], honest[P_MEDIA] = one_in(16) ? sum - (sum > 0) + 2 * draw(2) : sum, one_in(2));
+    return 12 + 8 * entries + sum;
+}
+
+/* Writes a capture file into an output of its length, a shorter one, or one that claims more. What was written is the file from now
+ * on, at times with a byte changed, cut, or with bytes after it; and where it was refused, a few bytes of any kind. Gives whether it
+ * must be whole. */
+static int write_file(void)
+{
+    struct call c;
+    size_t need = lay_content(), given = one_in(8) ? (size_t)draw(need) : need, i;
+    memset(&c, 0, sizeof c);
+    c.kind = FILE_WRITE;
+    c.w = one_in(8) ? made_up(w) : w;
+    c.w.l &= 255, c.w.d &= 255;
+    if (one_in(16))
+        c.w.l = edge();
+    place(&parts[P_OUT], given, one_in(2));
+    c.out_len = given == need && one_in(3) ? given + (size_t)draw(CLAIM) : given;
+    claims += c.out_len > given;
+    attack_file(&c);
+    if (c.said[0] == CGV_DONE && c.said[1] != need)
+        fail("a file of another length");
+    if (c.said[0] != CGV_DONE) {
+        file_len = (size_t)draw(40);
+        for (i = 0; i < file_len; i++)
+            file[i] = (uint8_t)(one_in(2) ? draw(256) : draw(4));
+        return 0;
+    }
+    file_len = need;
+    memcpy(file, parts[P_OUT].plain, need);
+    switch (draw(6)) {
+    case 0: file[draw(one_in(2) ? 12 : need)] ^= (uint8_t)(1u << draw(8)); return 0;
+    case 1: file_len = (size_t)draw(need); return 0;
+    case 2: file[file_len++] = (uint8_t)draw(256); return 0;
+    default: return 1;
+    }
+}
+
+/* Reads the file in one piece and in pieces cut anywhere, at times from a reader that was made up. */
+static void read_file(int whole)
+{
+    struct call one, c;
+    size_t at = 0, piece;
+    memset(&one, 0, sizeof one);
+    one.kind = FILE_READ;
+    c = one;
+    lay_bytes(file, one.len = file_len);
+    attack_file(&one);
+    if (whole && one.said[0] != CGV_DONE)
+        fail("a file that was written is refused");
+    while (at < file_len) {
+        int refused = c.reader.stage == CGV_CAPTURE_REFUSED;
+        piece = one_in(3) ? (size_t)draw(9) : (size_t)draw(file_len);
+        piece = piece > file_len - at ? file_len - at : piece;
+        lay_bytes(file + at, c.len = piece);
+        attack_file(&c);
+        if (refused && c.reader.stage != CGV_CAPTURE_REFUSED)
+            fail("a refused reading goes on");
+        at += piece;
+    }
+    if (file_len && memcmp(one.said, c.said, sizeof c.said))
+        fail("another answer in pieces");
+    c.reader.stage = (uint32_t)draw(5);
+    c.reader.left = (uint32_t)edge(), c.reader.next = (uint32_t)edge(), c.reader.sum = (uint32_t)edge();
+    c.reader.at = (uint32_t)draw(14), c.reader.size = (uint32_t)edge();
+    attack_file(&c);
+}
+
+/* Header and entries from a front of any length, which may claim more than there is where it has what is asked; and the bodies. */
+static void walk_file(void)
+{
+    struct call c;
+    size_t count, i;
+    memset(&c, 0, sizeof c);
+    c.kind = FILE_HEADER;
+    lay_bytes(file, one_in(4) ? (size_t)draw(file_len < 20 ? file_len + 1 : 20) : file_len);
+    c.len = parts[P_DATAGRAM].size + (parts[P_DATAGRAM].size >= 12 ? (size_t)draw(CLAIM) : 0);
+    attack_file(&c);
+    count = c.said[0] == CGV_DONE ? (size_t)c.said[2] : 1;
+    for (i = 0; i < 4; i++) {
+        struct cgv_entry e;
+        const uint8_t *body;
+        uint8_t sum = 0;
+        c.kind = FILE_ENTRY;
+        c.number = (uint16_t)(one_in(8) ? draw(65536) : draw(count + 1));
+        c.len = one_in(2) ? file_len : 12 + 8 * ((size_t)c.number + one_in(2)) + (size_t)draw(9);
+        c.len = c.len > file_len ? file_len : c.len;
+        lay_bytes(file, c.len);
+        c.len += c.len >= 20 + 8 * (size_t)c.number ? (size_t)draw(CLAIM) : 0;
+        attack_file(&c);
+        e.number = (uint32_t)c.said[0], e.port = (uint8_t)c.said[1], e.start = (size_t)c.said[2], e.length = (size_t)c.said[3];
+        doing = "cgv_capture_body";
+        body = cgv_capture_body(parts[P_DATAGRAM].at[1], parts[P_DATAGRAM].size, e);
+        while (body && e.length)
+            sum ^= body[--e.length];
+        kept = sum;
+        helpers++;
+    }
+}
+
 static void one_window(void)
 {
     size_t i, steps = pick(1, 400);
@@ -521,6 +719,8 @@ static void one_window(void)
         place(&parts[i], honest[i] * size_of[i], one_in(2));
     }
     attack_helpers(one_in(2) ? w : made_up(w));
+    read_file(write_file());
+    walk_file();
 }
 
 #ifdef FUZZ
@@ -565,6 +765,11 @@ int main(int argc, char **argv)
     } while (seconds > 0 ? (double)(now.tv_sec - start.tv_sec) < seconds : calls < 1000000);
     for (i = 0; i < CGV_NUMBERS; i++)
         rarest = numbers[i] < numbers[rarest] ? i : rarest;
+    for (i = FILE_READ; i < KINDS; i++)
+        if (!files[i][CGV_DONE] || !files[i][CGV_BAD_CAPTURE] || (i == FILE_WRITE && !files[i][CGV_SHORT_BUFFER])) {
+            fprintf(stderr, "guard: an answer of %s was not reached\n", names[i]);
+            return 1;
+        }
     if (!spoilt) {
         fprintf(stderr, "guard: nothing was spoilt\n");
         return 1;
@@ -578,8 +783,10 @@ int main(int argc, char **argv)
         return 1;
     }
     printf("guard: %llu calls over %llu windows, %llu lengths that claimed more than there is, %llu helpers: nothing touched that must not be;\n"
-           "  every number from 0 to 17, the rarest, %zu, %llu times; %llu parity packets spoilt; a call needed %zu bytes of stack at most\n",
-           calls, windows, claims, helpers, rarest, numbers[rarest], spoilt, stack_used());
+           "  every number from 0 to 17, the rarest, %zu, %llu times; %llu parity packets spoilt; %llu capture files written, %llu refused;\n"
+           "  a call needed %zu bytes of stack at most\n",
+           calls, windows, claims, helpers, rarest, numbers[rarest], spoilt, files[FILE_WRITE][CGV_DONE], files[FILE_READ][CGV_BAD_CAPTURE],
+           stack_used());
     return 0;
 }
 #endif

@@ -8,6 +8,21 @@ static cgv_record records[1];
 static cgv_receiver receiver = {CGV_NO_WINDOW, CGV_STORE_OF_ARRAYS(media, timestamps, lengths, marks, parity, records)};
 static cgv_desk desk;
 
+// A capture file of one entry, written, judged and walked.
+static bool capture()
+{
+    const cgv_reader start = CGV_CAPTURE_START;
+    const uint8_t port = CGV_PORT_ROW, body[2] = {0xAB, 0xCD};
+    const uint16_t length = sizeof body;
+    uint8_t file[22];
+    if (cgv_capture_write(0, 4, 4, 188, 16, 1, &port, 1, &length, 1, body, sizeof body, file, sizeof file).count != sizeof file)
+        return false;
+    const cgv_entry entry = cgv_capture_entry(file, sizeof file, 0);
+    return cgv_capture_read(start, file, sizeof file).number == CGV_DONE && cgv_capture_header(file, sizeof file).count == 1 &&
+           entry.port == CGV_PORT_ROW && cgv_capture_body(file, sizeof file, entry) == file + 20 &&
+           cgv_capture_read(start, file, 21).number == CGV_BAD_CAPTURE;
+}
+
 int main()
 {
     const uint8_t datagram[12] = {0x80, 33};
@@ -25,5 +40,7 @@ int main()
         return 3;
     if (cgv_desk_rebuilt(&desk, &receiver, &number) || cgv_receiver_payload(&receiver, 0) || cgv_receiver_length(&receiver, 0))
         return 4;
+    if (!capture())
+        return 6;
     return cgv_counters_line(&desk.counters, line, sizeof line) == 0;
 }
