@@ -1,4 +1,5 @@
-/* Calls the card of tests/bare.rs: a packet taken in, an opening and a made-up window value refused, the line of its counters. */
+/* Calls the card of tests/bare.rs: a packet taken in, an opening and a made-up window value refused, the line of its counters; and a
+ * capture file, read and written again, whole and cut. */
 #include "congaveil.h"
 #include <stdbool.h>
 #include <stdio.h>
@@ -15,11 +16,19 @@ struct card {
     char line[256];
 };
 
+struct file {
+    uint8_t bytes[64];
+    size_t len;
+    uint8_t again[64];
+};
+
+int bare_capture(struct file *file, size_t cut, size_t index);
 int bare_card(struct card *card, const size_t *set_up, const struct cgv_window *made_up, bool opens, uint16_t number);
 
 int main(void)
 {
     static struct card card;
+    static struct file file = {{0, 2, 4, 4, 0, 188, 0xFF, 0xFA, 0, 16, 0, 8, 1, 0, 0, 2, 0, 0, 0, 28, 3, 0, 0, 2, 0, 0, 0, 30, 1, 2, 3, 4}, 32, {0}};
     static const struct cgv_window huge = {0, 0, 4, 4, SIZE_MAX, 16, 8, 0, 0};
     size_t good[6] = {65530, 4, 4, 188, 16, 8}, bad[6] = {0, 4, 4, 188, 401, 8};
     int i, answers[3];
@@ -38,6 +47,15 @@ int main(void)
             fprintf(stderr, "bare: answer %d is %d\n", i, answers[i]);
             return 1;
         }
+    if (bare_capture(&file, 7, 1) != 32 || memcmp(file.again, file.bytes, sizeof file.bytes)) {
+        fprintf(stderr, "bare: the file is not written as it was read\n");
+        return 1;
+    }
+    file.len = 31;
+    if (bare_capture(&file, 64, 0) != -21) {
+        fprintf(stderr, "bare: a file that is cut is taken\n");
+        return 1;
+    }
     printf("bare: the crate without std and without a way to a panic\n");
     return 0;
 }

@@ -3,6 +3,7 @@
 //! panic is left. tests/bare.c calls it.
 #![no_std]
 
+use congaveil::capture::{self, Capture, Port, Reader};
 use congaveil::{media_number, parity_snbase, Counters, Desk, How, Lent, Outer, Receiver, Record, Refusal, SetUp, Taken, Window};
 use core::fmt::Write;
 
@@ -43,6 +44,14 @@ pub struct Card {
     datagram: [u8; 216],
     len: usize,
     line: [u8; 256],
+}
+
+/// A capture file that a card in C has, and room for another one.
+#[repr(C)]
+pub struct File {
+    bytes: [u8; 64],
+    len: usize,
+    again: [u8; 64],
 }
 
 fn negative(refusal: Refusal) -> i32 {
@@ -89,4 +98,34 @@ pub extern "C" fn bare_card(card: &mut Card, set_up: &[usize; 6], made_up: &Wind
     let mut kept = (rest, here, seen, numbers, counted, how, busy);
     unsafe { core::ptr::write_volatile(&mut kept, kept) };
     answers.iter().fold(told, |last, answer| answer.map_or_else(negative, |_| last))
+}
+
+/// Reads a file whole and in two pieces, and writes its first four entries into another one; how many bytes that has, or the refusal
+/// as a negative number.
+#[no_mangle]
+pub extern "C" fn bare_capture(file: &mut File, cut: usize, index: usize) -> i32 {
+    let bytes = file.bytes.get(..file.len).unwrap_or(&[]);
+    let mut reader = Reader::new();
+    reader.read(bytes.get(..cut).unwrap_or(&[]));
+    reader.read(bytes.get(cut..).unwrap_or(bytes));
+    let (mut ports, mut lengths, mut bodies, mut len) = ([Port::Media; 4], [0; 4], [0; 64], 0usize);
+    let front = capture::header(bytes).map_or(0, |header| header.entries) ^ capture::entry(bytes, index).map_or(0, |entry| entry.start);
+    let mut kept = (front, reader.whole(), reader.refused());
+    unsafe { core::ptr::write_volatile(&mut kept, kept) };
+    let capture = match Capture::read(bytes) {
+        Ok(capture) => capture,
+        Err(refusal) => return negative(refusal),
+    };
+    let count = capture.header().entries.min(capture.entries().len()).min(4);
+    for (((port, body), to), length) in capture.entries().zip(&mut ports).zip(&mut lengths) {
+        *to = port;
+        *length = body.len() as u16;
+        for (to, from) in bodies.iter_mut().skip(len).zip(body) {
+            *to = *from;
+        }
+        len = len.saturating_add(body.len());
+    }
+    let (ports, lengths) = (ports.get(..count).unwrap_or(&[]), lengths.get(..count).unwrap_or(&[]));
+    let written = capture::write(&capture.set_up(), ports, lengths, bodies.get(..len).unwrap_or(&[]), &mut file.again);
+    written.map_or_else(negative, |len| len as i32)
 }

@@ -783,7 +783,7 @@ int main(int argc, char **argv)
         return 1;
     }
     printf("guard: %llu calls over %llu windows, %llu lengths that claimed more than there is, %llu helpers: nothing touched that must not be;\n"
-           "  every number from 0 to 17, the rarest, %zu, %llu times; %llu parity packets spoilt; %llu capture files written, %llu refused;\n"
+           "  every number from 0 to 17, the rarest, %zu, %llu times; %llu parity packets spoilt; %llu capture files written, %llu readings not whole;\n"
            "  a call needed %zu bytes of stack at most\n",
            calls, windows, claims, helpers, rarest, numbers[rarest], spoilt, files[FILE_WRITE][CGV_DONE], files[FILE_READ][CGV_BAD_CAPTURE],
            stack_used());

@@ -1,4 +1,4 @@
-//! The C face, as include/congaveil.h declares it. Every use of it is in `Receiver`.
+//! The C face, as include/congaveil.h declares it. Every use of it is in `Receiver` and in `capture`.
 use crate::Record;
 use core::mem::size_of;
 
@@ -36,6 +36,63 @@ pub struct Answer {
     pub spoilt: usize,
     pub window: Window,
 }
+
+/// What the header of a capture file says.
+#[repr(C)]
+pub struct Capture {
+    pub number: u32,
+    pub base: u16,
+    pub count: usize,
+    pub l: usize,
+    pub d: usize,
+    pub p: usize,
+    pub n: usize,
+    pub k: usize,
+}
+
+/// An entry of a capture file.
+#[repr(C)]
+pub struct Entry {
+    pub number: u32,
+    pub port: u8,
+    pub start: usize,
+    pub length: usize,
+}
+
+/// Where the reading of a capture file stands. It starts from zeros.
+#[repr(C)]
+#[derive(Clone, Copy, Debug, Default, PartialEq, Eq)]
+pub struct Reader {
+    pub stage: u32,
+    left: u32,
+    next: u32,
+    sum: u32,
+    at: u32,
+    size: u32,
+}
+
+/// The stage of a reader that no further piece helps.
+pub const REFUSED: u32 = 3;
+
+#[repr(C)]
+pub struct Reading {
+    pub number: u32,
+    pub reader: Reader,
+}
+
+#[repr(C)]
+pub struct Written {
+    pub number: u32,
+    pub count: usize,
+}
+
+const _: () = assert!(
+    size_of::<Capture>() == 56
+        && size_of::<Entry>() == 24
+        && size_of::<Reader>() == 24
+        && size_of::<Reading>() == 28
+        && size_of::<Written>() == 16
+);
 
 /// An offer: window value, datagram, and the store, each part with its length.
 pub type Offer = unsafe extern "C" fn(
@@ -141,6 +198,28 @@ extern "C" {
         out: *mut u8,
         out_len: usize,
     ) -> Answer;
+}
+
+extern "C" {
+    pub fn cgv_capture_read(r: Reader, piece: *const u8, len: usize) -> Reading;
+    pub fn cgv_capture_header(front: *const u8, len: usize) -> Capture;
+    pub fn cgv_capture_entry(front: *const u8, len: usize, i: usize) -> Entry;
+    pub fn cgv_capture_write(
+        base: u16,
+        l: usize,
+        d: usize,
+        p: usize,
+        n: usize,
+        k: usize,
+        ports: *const u8,
+        ports_len: usize,
+        lengths: *const u16,
+        lengths_len: usize,
+        bodies: *const u8,
+        bodies_len: usize,
+        out: *mut u8,
+        out_len: usize,
+    ) -> Written;
 }
 
 extern "C" {

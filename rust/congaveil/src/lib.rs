@@ -29,7 +29,8 @@
 //! # fn main() {}
 //! ```
 //!
-//! A [`Desk`] beside the receiver tells which packets were rebuilt, and counts for the operator.
+//! A [`Desk`] beside the receiver tells which packets were rebuilt, and counts for the operator. [`capture`] saves what came in to a
+//! file, and reads such files.
 //!
 //! # What to do with an answer
 //!
@@ -41,11 +42,11 @@
 //! - [`Differs`](Refusal::Differs) on media is **the alarm**: a packet already marked present differs from the one that
 //!   arrived. One of the two is wrong, and the one in the store may have gone to air.
 //! - Refusals 6 to 12 are of a datagram of another kind, port or profile, or of a damaged one; 1 to 5 are a fault in the
-//!   card: set-up, buffers, or a store that somebody changed.
+//!   card: set-up, buffers, or a store that somebody changed. 21 is of a capture file alone.
 //!
 //! # Without std
 //!
-//! `default-features = false` leaves `std` out, and with it [`Owned`], [`Receiver::open`] and [`Receiver::packet`];
+//! `default-features = false` leaves `std` out, and with it [`Owned`], [`Receiver::open`], [`Receiver::packet`] and [`capture::to_vec`];
 //! everything else works over a [`Lent`] store. Nothing is allocated then.
 //!
 //! # Threads
@@ -63,6 +64,7 @@
 #[cfg(feature = "std")]
 extern crate std;
 
+pub mod capture;
 mod datagram;
 mod desk;
 mod face;
@@ -97,5 +99,5 @@ pub const PAYLOAD_MAX: usize = 7 * 204;
 pub const POSITIONS_MAX: usize = 400;
 /// The most records that a window may have.
 pub const RECORDS_MAX: usize = 128;
-/// How many numbers an answer may have: 0, and the refusals from 1 to 17.
+/// How many answers the calls of a receiver have: 0, and the refusals from 1 to 17. The size of a table of them; 21 is none of these.
 pub const NUMBERS: usize = 18;

@@ -122,8 +122,7 @@ impl<S: Store> Receiver<S> {
         let s = store.lent();
         // SAFETY: the parts are borrowed slices, so valid for their lengths and apart from each other, until it returns.
         let answer = unsafe { lend!(face::cgv_open, [base, l, d, p, n, k, ssrc], s, as_mut_ptr, []) };
-        Refusal::check(&answer)?;
-        Ok(Receiver { window: answer.window, store })
+        Refusal::check(answer.number, Receiver { window: answer.window, store })
     }
 
     /// Offers a datagram of the media port. Answers how many packets were rebuilt, and how many parity packets were spoilt.
@@ -163,7 +162,7 @@ impl<S: Store> Receiver<S> {
         let s = self.store.shown();
         // SAFETY: as in `open_in`; the store is borrowed shared, and the call only reads it.
         let answer = unsafe { lend!(face::cgv_read, [self.window, number], s, as_ptr, [out.as_mut_ptr(), out.len()]) };
-        Refusal::check(&answer)
+        Refusal::check(answer.number, answer.count)
     }
 
     /// Writes the parity datagram of the column that starts at a number: [`PARITY_HEADER`](crate::PARITY_HEADER) and as many bytes
@@ -274,7 +273,7 @@ impl<S: Store> Receiver<S> {
         // SAFETY: as in `open_in`; the datagram is borrowed apart from the store.
         let answer = unsafe { lend!(call, [self.window, datagram.as_ptr(), datagram.len()], s, as_mut_ptr, []) };
         self.window = answer.window;
-        Ok(Taken { rebuilt: Refusal::check(&answer)?, spoilt: answer.spoilt })
+        Refusal::check(answer.number, Taken { rebuilt: answer.count, spoilt: answer.spoilt })
     }
 
     fn write(&self, call: face::Write, snbase: u16, outer: Outer, out: &mut [u8]) -> Result<usize, Refusal> {
@@ -282,7 +281,7 @@ impl<S: Store> Receiver<S> {
         // SAFETY: as in `read`.
         let Outer { sequence, timestamp, ssrc } = outer;
         let answer = unsafe { lend!(call, [self.window, snbase, sequence, timestamp, ssrc], s, as_ptr, [out.as_mut_ptr(), out.len()]) };
-        Refusal::check(&answer)
+        Refusal::check(answer.number, answer.count)
     }
 }
 

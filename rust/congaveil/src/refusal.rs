@@ -1,7 +1,7 @@
-use crate::face;
 use core::fmt;
 
-/// Why a call was refused: the first reason that applies, in this order. Its number is document 01's.
+/// Why a call was refused: the first reason that applies, in this order; of a capture file 21 comes before 4. Its number is that of
+/// documents 01 and 02.
 #[derive(Clone, Copy, Debug, PartialEq, Eq, Hash)]
 #[repr(u32)]
 pub enum Refusal {
@@ -39,19 +39,21 @@ pub enum Refusal {
     Full = 16,
     /// Reading a missing packet, or writing parity over one.
     Missing = 17,
+    /// Not a proper capture file, or not the content of one.
+    BadCapture = 21,
 }
 
 impl Refusal {
-    /// The number of the refusal, 1 to 17.
+    /// The number of the refusal, 1 to 17 or 21.
     #[must_use]
     pub fn number(self) -> u32 {
         self as u32
     }
 
-    /// The count of an answer, or its refusal.
-    pub(crate) fn check(answer: &face::Answer) -> Result<usize, Refusal> {
-        Err(match answer.number {
-            0 => return Ok(answer.count),
+    /// What an answer of this number says, or its refusal.
+    pub(crate) fn check<T>(number: u32, says: T) -> Result<T, Refusal> {
+        Err(match number {
+            0 => return Ok(says),
             1 => Refusal::BadProfile,
             2 => Refusal::BadPayloadSize,
             3 => Refusal::BadRoom,
@@ -68,7 +70,8 @@ impl Refusal {
             14 => Refusal::Repeat,
             15 => Refusal::Differs,
             16 => Refusal::Full,
-            _ => Refusal::Missing, // 17, the last
+            17 => Refusal::Missing,
+            _ => Refusal::BadCapture, // 21, the last
         })
     }
 }
@@ -93,6 +96,7 @@ impl fmt::Display for Refusal {
             Refusal::Differs => "already held, and different",
             Refusal::Full => "no record is free",
             Refusal::Missing => "packet missing",
+            Refusal::BadCapture => "not a proper capture file",
         })
     }
 }

@@ -282,6 +282,7 @@ fn words() {
         assert_eq!(refusal.number(), i as u32 + 1);
         assert!(!refusal.to_string().is_empty());
     }
+    assert_eq!((BadCapture.number(), BadCapture.to_string()), (21, "not a proper capture file".into()));
     assert_eq!(BadLength.to_string(), "payload not whole transport packets up to the window's size");
     assert_eq!(BadRecovery.to_string(), "payload type recovery not the profile's");
 }
