@@ -1,13 +1,13 @@
 /* A card in C: opens a window at the first media packet of a capture, feeds it the capture with losses, and prints what was recovered
  * and what stays missing.
  *
- *     card FILE L D PAYLOAD       (the largest payload, in bytes)
+ *     card FILE [FILE ..]       (a capture file, or the parts of a capture in their order)
  *
- * A capture is a run of entries: one byte of kind (1 media, 2 column parity, 3 row parity), two bytes of length, big-endian,
- * and the datagram. Lost here: positions 8 to 12, a burst of 16 from 40 on, and every 17th.
- * Exits with 1 where the file is at fault or the window cannot be opened, with 2 where the arguments are. */
+ * L, D and the largest payload are those of the file; the window's room is the card's own. Lost here: positions 8 to 12, a burst of 16
+ * from 40 on, and every 17th. Exits with 1 where a file is at fault or the window cannot be opened, with 2 where the arguments are. */
 #include <congaveil_desk.h>
 #include <errno.h>
+#include <stdarg.h>
 #include <stdio.h>
 #include <stdlib.h>
 #include <string.h>
@@ -22,36 +22,44 @@ static struct cgv_record records[RECORDS];
 static struct cgv_receiver card = {CGV_NO_WINDOW, CGV_STORE_OF_ARRAYS(media, timestamps, lengths, marks, parity, records)};
 static struct cgv_desk desk;
 
-/* A capture that is being read: where the next entry starts, and its number from 1 on. */
-struct capture {
-    const char *name;
-    FILE *file;
-    unsigned long at, entry;
-};
+static uint8_t file[CGV_CAPTURE_MAX + 1]; /* with the byte at which a longer file is refused */
 
-static void fault(const struct capture *c, const char *what)
+/* Ends the card, with the fault of a file. */
+static void fault(const char *name, const char *what, ...)
 {
-    fprintf(stderr, "card: %s: entry %lu, at byte %lu: %s\n", c->name, c->entry, c->at, what);
+    va_list values;
+    fprintf(stderr, "card: %s: ", name);
+    va_start(values, what);
+    vfprintf(stderr, what, values);
+    va_end(values);
+    fputc('\n', stderr);
     exit(1);
 }
 
-/* The next entry of a capture: its kind, or 0 at the end. */
-static int next_entry(struct capture *c, uint8_t *datagram, size_t *len)
+/* Reads a file into memory: its length. */
+static size_t load(const char *name)
 {
-    uint8_t head[3];
-    size_t got = fread(head, 1, sizeof head, c->file);
-    c->entry++;
-    if (got == 0 && !ferror(c->file))
-        return 0;
-    if (got < sizeof head)
-        fault(c, ferror(c->file) ? strerror(errno) : "cut inside its kind and length");
-    if (head[0] < 1 || head[0] > 3)
-        fault(c, "a kind that is not 1, 2 or 3");
-    *len = (size_t)head[1] << 8 | head[2];
-    if (fread(datagram, 1, *len, c->file) < *len)
-        fault(c, ferror(c->file) ? strerror(errno) : "cut inside its datagram");
-    c->at += (unsigned long)(sizeof head + *len);
-    return head[0];
+    FILE *f = fopen(name, "rb");
+    size_t len = f ? fread(file, 1, sizeof file, f) : 0;
+    if (!f || ferror(f))
+        fault(name, "%s", strerror(errno));
+    fclose(f);
+    return len;
+}
+
+/* Judges the file. Where it is refused, it is read once more, byte by byte, to say where. */
+static void judge(const char *name, size_t len)
+{
+    struct cgv_reader r = CGV_CAPTURE_START;
+    uint32_t number = cgv_capture_read(r, file, len).number;
+    size_t at = 0;
+    if (number == CGV_DONE)
+        return;
+    while (at < len && r.stage != CGV_CAPTURE_REFUSED)
+        r = cgv_capture_read(r, file + at++, 1).reader;
+    if (r.stage == CGV_CAPTURE_REFUSED)
+        fault(name, "%s (%u): wrong at byte %zu", cgv_message(number), (unsigned)number, at - 1);
+    fault(name, "%s (%u): cut short at byte %zu", cgv_message(number), (unsigned)number, at);
 }
 
 static int lost(size_t position)
@@ -71,36 +79,22 @@ static void print_numbers(const char *what, int how)
     printf(count ? " (%zu)\n" : " none\n", count);
 }
 
-/* A size of the command line: digits alone. */
-static size_t size_of(const char *word)
-{
-    char *end;
-    unsigned long value = strtoul(word, &end, 10);
-    if (*word < '0' || *word > '9' || *end) {
-        fprintf(stderr, "card: %s is not a number\n", word);
-        exit(2);
-    }
-    return value;
-}
-
 /* Opens the window at a media packet's number. */
-static void open_at(uint16_t number, size_t l, size_t d, size_t p)
+static void open_at(const char *name, uint16_t number, struct cgv_capture h)
 {
-    struct cgv_answer a = cgv_receiver_open(&card, number, l, d, p, POSITIONS, RECORDS, 1);
-    if (a.number) {
-        fprintf(stderr, "card: no window for L %zu, D %zu, payload %zu: %s\n", l, d, p, cgv_message(a.number));
-        exit(1);
-    }
+    struct cgv_answer a = cgv_receiver_open(&card, number, h.l, h.d, h.p, POSITIONS, RECORDS, 1);
+    if (a.number)
+        fault(name, "no window for L %zu, D %zu, payload %zu: %s", h.l, h.d, h.p, cgv_message(a.number));
     cgv_desk_begin(&desk, &card);
 }
 
 /* Offers a datagram, by the port that it came in on; what is refused is counted by its number. */
-static void offer(int kind, const uint8_t *datagram, size_t len)
+static void offer(uint8_t port, const uint8_t *datagram, size_t len)
 {
     uint16_t number;
-    if (kind == 1)
+    if (port == CGV_PORT_MEDIA)
         cgv_desk_media(&desk, &card, datagram, len);
-    else if (kind == 2)
+    else if (port == CGV_PORT_COLUMN)
         cgv_desk_column(&desk, &card, datagram, len);
     else
         cgv_desk_row(&desk, &card, datagram, len);
@@ -109,46 +103,41 @@ static void offer(int kind, const uint8_t *datagram, size_t len)
     }
 }
 
-/* Feeds a capture, less what is lost. */
-static void feed(struct capture *c, size_t l, size_t d, size_t p)
+/* Feeds the file, less what is lost. There is no window before the first media packet. */
+static void feed(const char *name, size_t len)
 {
-    static uint8_t datagram[65536];
-    uint16_t number;
-    size_t len;
-    int kind, open = 0;
-    while ((kind = next_entry(c, datagram, &len)) != 0) {
-        int numbered = kind == 1 && cgv_media_number(datagram, len, &number);
-        if (!open && !numbered)
-            continue; /* there is no window yet */
-        if (!open)
-            open_at(number, l, d, p);
-        open = 1;
-        if (!numbered || cgv_position(&card.window, number) >= POSITIONS || !lost(cgv_position(&card.window, number)))
-            offer(kind, datagram, len);
-    }
-    if (!open) {
-        fprintf(stderr, "card: %s: %s\n", c->name, c->entry == 1 ? "an empty file" : "no media packet in it");
-        exit(1);
+    struct cgv_capture h = cgv_capture_header(file, len);
+    size_t i;
+    if (card.window.n && (h.l != card.window.l || h.d != card.window.d || h.p != card.window.p))
+        fault(name, "L, D or P is not that of the parts before");
+    for (i = 0; i < h.count; i++) {
+        struct cgv_entry e = cgv_capture_entry(file, len, i);
+        const uint8_t *datagram = cgv_capture_body(file, len, e);
+        uint16_t number = 0;
+        int numbered = e.port == CGV_PORT_MEDIA && cgv_media_number(datagram, e.length, &number);
+        if (!card.window.n && numbered)
+            open_at(name, number, h);
+        if (card.window.n && !(numbered && cgv_position(&card.window, number) < POSITIONS && lost(cgv_position(&card.window, number))))
+            offer(e.port, datagram, e.length);
     }
 }
 
 int main(int argc, char **argv)
 {
-    struct capture c = {argc > 1 ? argv[1] : "", NULL, 0, 0};
     char line[CGV_COUNTERS_LINE];
-    size_t l, d, p;
-    if (argc != 5) {
-        fprintf(stderr, "usage: card FILE L D PAYLOAD\n");
+    size_t len;
+    int i;
+    if (argc < 2) {
+        fprintf(stderr, "usage: card FILE [FILE ..]\n");
         return 2;
     }
-    l = size_of(argv[2]), d = size_of(argv[3]), p = size_of(argv[4]);
-    c.file = fopen(c.name, "rb");
-    if (!c.file) {
-        fprintf(stderr, "card: %s: %s\n", c.name, strerror(errno));
-        return 1;
+    for (i = 1; i < argc; i++) {
+        len = load(argv[i]);
+        judge(argv[i], len);
+        feed(argv[i], len);
     }
-    feed(&c, l, d, p);
-    fclose(c.file);
+    if (!card.window.n)
+        fault(argv[1], "no media packet in it");
     cgv_counters_line(&desk.counters, line, sizeof line);
     printf("window from %u, %zu of %zu packets present\n%s\n", (unsigned)card.window.base, card.window.present, card.window.n, line);
     print_numbers("recovered", CGV_HOW_REBUILT);

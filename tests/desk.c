@@ -1,6 +1,6 @@
 /* The desk: which packets were rebuilt, and the counters, over a capture of GStreamer without a loss and over packets made here.
  *
- *     desk CAPTURE MIXED      captures of GStreamer, 4 x 4: payloads of 752, and of several lengths up to 1,316
+ *     desk CAPTURE MIXED      capture files of GStreamer, 4 x 4: payloads of 752, and of several lengths up to 1,316
  *
  * Exits 1 at the first difference. Buffers come from malloc with not a byte to spare; under valgrind a step past one is an error. */
 #include "congaveil_desk.h"
@@ -70,48 +70,52 @@ static size_t parity(uint8_t *g, int row, uint16_t start)
 
 static uint16_t at(int position) { return (uint16_t)(BASE + position); }
 
-/* GStreamer sends a row's parity before the row's last packet: nothing is lost, and still packets are rebuilt, each refused
- * with 14 when it arrives. None of them is recovered. */
-static void without_a_loss(const char *name, size_t p)
+/* A capture file in memory, and its length. */
+static const uint8_t *load(const char *name, size_t *len)
 {
-    static uint8_t g[65536];
-    static size_t sent[400]; /* payload bytes by position */
-    struct cgv_receiver r = new_receiver(400, p, 128);
-    struct cgv_desk desk;
-    size_t len, offered = 0, told = 0;
-    uint16_t number;
-    int kind, high, low;
+    static const struct cgv_reader start = CGV_CAPTURE_START;
+    static uint8_t file[CGV_CAPTURE_MAX];
     FILE *f = fopen(name, "rb");
     must(f != NULL, "the capture opens");
+    *len = fread(file, 1, sizeof file, f);
+    fclose(f);
+    must(cgv_capture_read(start, file, *len).number == CGV_DONE, "the capture is whole");
+    return file;
+}
+
+/* GStreamer sends a row's parity before the row's last packet: nothing is lost, and still packets are rebuilt, each refused
+ * with 14 when it arrives. None of them is recovered. */
+static void without_a_loss(const char *name)
+{
+    static size_t sent[400]; /* payload bytes by position */
+    size_t len, i, offered = 0, told = 0;
+    const uint8_t *file = load(name, &len);
+    struct cgv_capture h = cgv_capture_header(file, len);
+    struct cgv_receiver r = new_receiver(400, h.p, 128);
+    struct cgv_desk desk;
+    uint16_t number;
     memset(&desk, 0, sizeof desk);
-    while ((kind = getc(f)) != EOF) {
-        high = getc(f), low = getc(f);
-        len = (size_t)high << 8 | (size_t)low;
-        must(low != EOF && fread(g, 1, len, f) == len, "the capture is whole");
-        if (!r.window.n) {
-            must(kind == 1 && cgv_media_number(g, len, &number), "it starts with media");
-            must(cgv_receiver_open(&r, number, L, D, p, 400, 128, 1).number == 0, "opens");
-            cgv_desk_begin(&desk, &r);
-        }
-        if (kind == 1) {
-            must(cgv_media_number(g, len, &number) && cgv_position(&r.window, number) < 400, "media of the window");
-            sent[cgv_position(&r.window, number)] = len - 12;
+    must(cgv_receiver_open(&r, h.base, h.l, h.d, h.p, 400, 128, 1).number == 0, "opens");
+    cgv_desk_begin(&desk, &r);
+    for (i = 0; i < h.count; i++) {
+        struct cgv_entry e = cgv_capture_entry(file, len, i);
+        const uint8_t *g = cgv_capture_body(file, len, e);
+        if (e.port == CGV_PORT_MEDIA) {
+            must(cgv_media_number(g, e.length, &number) && cgv_position(&r.window, number) < 400, "media of the window");
+            sent[cgv_position(&r.window, number)] = e.length - 12;
             offered++;
-        }
-        if (kind == 1)
-            cgv_desk_media(&desk, &r, g, len);
-        else if (kind == 2)
-            cgv_desk_column(&desk, &r, g, len);
+            cgv_desk_media(&desk, &r, g, e.length);
+        } else if (e.port == CGV_PORT_COLUMN)
+            cgv_desk_column(&desk, &r, g, e.length);
         else
-            cgv_desk_row(&desk, &r, g, len);
+            cgv_desk_row(&desk, &r, g, e.length);
         while (cgv_desk_rebuilt(&desk, &r, &number)) {
             must(cgv_receiver_payload(&r, number) != NULL, "what is told is present");
             told++;
         }
     }
-    fclose(f);
-    for (len = 0; len < offered; len++)
-        must(cgv_receiver_length(&r, cgv_number(&r.window, len)) == sent[len] && sent[len] > 0, "the length of a packet");
+    for (i = 0; i < offered; i++)
+        must(cgv_receiver_length(&r, cgv_number(&r.window, i)) == sent[i] && sent[i] > 0, "the length of a packet");
     must(told > 0 && told == desk.counters.rebuilt, "packets are rebuilt, and each is told");
     must(desk.counters.late == told && cgv_recovered(&desk.counters) == 0, "each arrived afterwards: none is recovered");
     must(desk.counters.answers[CGV_REPEAT] == told && cgv_refused(&desk.counters) == told, "each was refused with 14, and nothing else was");
@@ -292,8 +296,8 @@ static void made_up(void)
 int main(int argc, char **argv)
 {
     must(argc == 3, "usage: desk CAPTURE MIXED");
-    without_a_loss(argv[1], 752);
-    without_a_loss(argv[2], 1316);
+    without_a_loss(argv[1]);
+    without_a_loss(argv[2]);
     at_a_stroke();
     spoilt();
     neighbours();

@@ -1,45 +1,41 @@
 //! A card in Rust: opens a window at the first media packet of a capture, feeds it the capture with losses, and prints what
 //! was recovered and what stays missing.
 //!
-//!     cargo run --example card -- FILE L D PAYLOAD       (the largest payload, in bytes)
+//!     cargo run --example card -- FILE [FILE ..]       (a capture file, or the parts of a capture in their order)
 //!
-//! A capture is a run of entries: one byte of kind (1 media, 2 column parity, 3 row parity), two bytes of length,
-//! big-endian, and the datagram. Lost here: positions 8 to 12, a burst of 16 from 40 on, and every 17th.
-//! Exits with 1 where the file is at fault or the window cannot be opened, with 2 where the arguments are.
+//! L, D and the largest payload are those of the file; the window's room is the card's own. Lost here: positions 8 to 12, a burst of
+//! 16 from 40 on, and every 17th. Exits with 1 where a file is at fault or the window cannot be opened, with 2 where the arguments are.
+use congaveil::capture::{Capture, Port, Reader, FILE_MAX};
 use congaveil::{media_number, Desk, How, Receiver, SetUp};
-use std::{env, fs, io, io::Write, process::ExitCode};
+use std::{env, fs::File, io, io::Read, io::Write, process::ExitCode};
 
 const POSITIONS: usize = 200;
 const RECORDS: usize = 80;
 
-/// A capture that is being read: what is left of it, where that starts, and the number of the next entry from 1 on.
-struct Capture<'a> {
-    bytes: &'a [u8],
-    at: usize,
-    entry: usize,
+/// A window, once there is one, and what is counted.
+struct Card {
+    receiver: Option<Receiver>,
+    desk: Desk,
 }
 
-impl<'a> Capture<'a> {
-    /// Kind and datagram of the next entry, nothing at the end, or the fault that it has.
-    fn next(&mut self) -> Result<Option<(u8, &'a [u8])>, String> {
-        let fault = |what| Err(format!("entry {}, at byte {}: {what}", self.entry, self.at));
-        let (kind, len) = match *self.bytes {
-            [] => return Ok(None),
-            [kind, high, low, ..] => (kind, usize::from(u16::from_be_bytes([high, low]))),
-            _ => return fault("cut inside its kind and length"),
-        };
-        if !(1..=3).contains(&kind) {
-            return fault("a kind that is not 1, 2 or 3");
-        }
-        let datagram = match self.bytes.get(3..3 + len) {
-            Some(datagram) => datagram,
-            None => return fault("cut inside its datagram"),
-        };
-        self.bytes = &self.bytes[3 + len..];
-        self.at += 3 + len;
-        self.entry += 1;
-        Ok(Some((kind, datagram)))
-    }
+/// A file in memory, up to the byte at which a longer one is refused.
+fn load(file: &str) -> io::Result<Vec<u8>> {
+    let mut bytes = Vec::new();
+    File::open(file)?.take(FILE_MAX as u64 + 1).read_to_end(&mut bytes)?;
+    Ok(bytes)
+}
+
+/// Judges a file. Where it is refused, it is read once more, byte by byte, to say where.
+fn judge(bytes: &[u8]) -> Result<Capture<'_>, String> {
+    Capture::read(bytes).map_err(|refusal| {
+        let mut reader = Reader::new();
+        let wrong = bytes.chunks(1).position(|byte| {
+            reader.read(byte);
+            reader.refused()
+        });
+        let place = wrong.map_or(format!("cut short at byte {}", bytes.len()), |at| format!("wrong at byte {at}"));
+        format!("{refusal} ({}): {place}", refusal.number())
+    })
 }
 
 fn lost(position: usize) -> bool {
@@ -56,39 +52,64 @@ fn numbers(what: &str, receiver: &Receiver, desk: &Desk, how: How) -> String {
     }
 }
 
-fn card(file: &str, l: usize, d: usize, payload: usize) -> Result<(), String> {
-    let of_file = |what: String| format!("{file}: {what}");
-    let bytes = fs::read(file).map_err(|e| of_file(e.to_string()))?;
-    let mut capture = Capture { bytes: &bytes, at: 0, entry: 1 };
-    let mut desk = Desk::new();
-    let mut open: Option<Receiver> = None;
-    while let Some((kind, datagram)) = capture.next().map_err(of_file)? {
-        let number = if kind == 1 { media_number(datagram) } else { None };
-        let mut receiver = match (open.take(), number) {
-            (Some(receiver), _) => receiver,
-            (None, None) => continue, // there is no window yet
-            (None, Some(base)) => {
-                let set_up = SetUp { base, l, d, payload, positions: POSITIONS, records: RECORDS, ssrc: 1 };
-                let receiver = Receiver::open(set_up).map_err(|e| format!("no window for L {l}, D {d}, payload {payload}: {e}"))?;
-                desk.begin(&receiver);
-                receiver
-            }
+impl Card {
+    /// Opens the window at a media packet's number.
+    fn open(&mut self, base: u16, of_file: SetUp) -> Result<(), String> {
+        let SetUp { l, d, payload, .. } = of_file;
+        let set_up = SetUp { base, positions: POSITIONS, records: RECORDS, ssrc: 1, ..of_file };
+        let receiver = Receiver::open(set_up).map_err(|e| format!("no window for L {l}, D {d}, payload {payload}: {e}"))?;
+        self.desk.begin(&receiver);
+        self.receiver = Some(receiver);
+        Ok(())
+    }
+
+    /// Offers a datagram, unless it is lost, by the port that it came in on; what is refused is counted by its number. There is no
+    /// window before the first media packet.
+    fn offer(&mut self, port: Port, datagram: &[u8], number: Option<u16>) {
+        let (receiver, desk) = match &mut self.receiver {
+            Some(receiver) => (receiver, &mut self.desk),
+            None => return,
         };
         let position = number.map_or(POSITIONS, |number| receiver.position(number));
-        if position >= POSITIONS || !lost(position) {
-            // What is refused is counted by its number.
-            let _ = match kind {
-                1 => desk.media(&mut receiver, datagram),
-                2 => desk.column(&mut receiver, datagram),
-                _ => desk.row(&mut receiver, datagram),
-            };
-            for _packet in desk.rebuilt(&receiver) {
-                // A card sends the packet on from here: its number, timestamp and payload.
-            }
+        if position < POSITIONS && lost(position) {
+            return;
         }
-        open = Some(receiver);
+        let _ = match port {
+            Port::Media => desk.media(receiver, datagram),
+            Port::Column => desk.column(receiver, datagram),
+            Port::Row => desk.row(receiver, datagram),
+        };
+        for _packet in desk.rebuilt(receiver) {
+            // A card sends the packet on from here: its number, timestamp and payload.
+        }
     }
-    let receiver = open.ok_or_else(|| of_file(String::from(if bytes.is_empty() { "an empty file" } else { "no media packet in it" })))?;
+
+    /// Feeds a file, less what is lost.
+    fn feed(&mut self, capture: Capture) -> Result<(), String> {
+        let of_file = capture.set_up();
+        let window = self.receiver.as_ref().map(|receiver| *receiver.window());
+        if window.map_or(false, |w| (w.l, w.d, w.p) != (of_file.l, of_file.d, of_file.payload)) {
+            return Err("L, D or P is not that of the parts before".into());
+        }
+        for (port, datagram) in capture.entries() {
+            let number = if port == Port::Media { media_number(datagram) } else { None };
+            if let (None, Some(base)) = (&self.receiver, number) {
+                self.open(base, of_file)?;
+            }
+            self.offer(port, datagram, number);
+        }
+        Ok(())
+    }
+}
+
+fn run(files: &[String]) -> Result<(), String> {
+    let mut card = Card { receiver: None, desk: Desk::new() };
+    for file in files {
+        let fed = load(file).map_err(|e| e.to_string()).and_then(|bytes| card.feed(judge(&bytes)?));
+        fed.map_err(|what| format!("{file}: {what}"))?;
+    }
+    let Card { receiver, desk } = card;
+    let receiver = receiver.ok_or_else(|| format!("{}: no media packet in it", files[0]))?;
     let window = receiver.window();
     let mut text = format!("window from {}, {} of {} packets present\n{}\n", window.base, window.present, window.n, desk.counters());
     text += &numbers("recovered", &receiver, &desk, How::Rebuilt);
@@ -97,25 +118,12 @@ fn card(file: &str, l: usize, d: usize, payload: usize) -> Result<(), String> {
 }
 
 fn main() -> ExitCode {
-    let args: Vec<String> = env::args().skip(1).collect();
-    let (file, sizes) = match args.split_first() {
-        Some((file, sizes)) if sizes.len() == 3 => (file, sizes),
-        _ => {
-            eprintln!("usage: card FILE L D PAYLOAD");
-            return ExitCode::from(2);
-        }
-    };
-    let mut numbers = [0; 3];
-    for (number, word) in numbers.iter_mut().zip(sizes) {
-        match word.parse() {
-            Ok(value) => *number = value,
-            Err(_) => {
-                eprintln!("card: {word} is not a number");
-                return ExitCode::from(2);
-            }
-        }
+    let files: Vec<String> = env::args().skip(1).collect();
+    if files.is_empty() {
+        eprintln!("usage: card FILE [FILE ..]");
+        return ExitCode::from(2);
     }
-    match card(file, numbers[0], numbers[1], numbers[2]) {
+    match run(&files) {
         Ok(()) => ExitCode::SUCCESS,
         Err(e) => {
             let _ = writeln!(io::stderr(), "card: {e}");

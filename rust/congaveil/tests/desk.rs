@@ -1,5 +1,6 @@
 //! The desk: which packets were rebuilt, and the counters, over a capture of GStreamer without a loss and over packets made
 //! here; and what is read where it lies in the store.
+use congaveil::capture::{Capture, Port};
 use congaveil::{media_number, parity_snbase, Counters, Desk, How, Lent, Packet, Receiver, Record, Refusal, SetUp, Taken, Window};
 
 const BASE: u16 = 65_530;
@@ -37,6 +38,21 @@ fn parity(row: bool, start: u16) -> Vec<u8> {
     g
 }
 
+/// A capture file, and a receiver with all the room that there can be, at its base.
+fn capture(file: &[u8]) -> (Capture<'_>, Receiver) {
+    let capture = Capture::read(file).unwrap();
+    let receiver = Receiver::open(SetUp { positions: 400, records: 128, ..capture.set_up() }).unwrap();
+    (capture, receiver)
+}
+
+fn offer(desk: &mut Desk, r: &mut Receiver, port: Port, datagram: &[u8]) {
+    let _ = match port {
+        Port::Media => desk.media(r, datagram),
+        Port::Column => desk.column(r, datagram),
+        Port::Row => desk.row(r, datagram),
+    };
+}
+
 fn numbers(desk: &mut Desk, receiver: &Receiver) -> Vec<u16> {
     desk.rebuilt(receiver).map(|packet| packet.number).collect()
 }
@@ -45,25 +61,14 @@ fn numbers(desk: &mut Desk, receiver: &Receiver) -> Vec<u16> {
 /// with 14 when it arrives. None of them is recovered.
 #[test]
 fn without_a_loss() {
-    let mut capture: &[u8] = include_bytes!("../../../captures/gst_4x4_k4.cap");
-    let base = media_number(&capture[3..]).unwrap();
-    let mut r = Receiver::open(SetUp { base, payload: 752, positions: 400, records: 128, ..SET_UP }).unwrap();
-    let (mut desk, mut offered, mut told) = (Desk::new(), 0, 0);
+    let (capture, mut r) = capture(include_bytes!("../../../captures/gst_4x4_k4.cap"));
+    let (mut desk, mut told) = (Desk::new(), 0);
     desk.begin(&r);
-    while !capture.is_empty() {
-        let len = usize::from(u16::from_be_bytes([capture[1], capture[2]]));
-        let datagram = &capture[3..3 + len];
-        let _ = match capture[0] {
-            1 => {
-                offered += 1;
-                desk.media(&mut r, datagram)
-            }
-            2 => desk.column(&mut r, datagram),
-            _ => desk.row(&mut r, datagram),
-        };
+    for (port, datagram) in &capture {
+        offer(&mut desk, &mut r, port, datagram);
         told += desk.rebuilt(&r).filter(|packet| r.payload(packet.number) == Some(packet.payload)).count() as u64;
-        capture = &capture[3 + len..];
     }
+    let offered = capture.entries().filter(|(port, _)| *port == Port::Media).count() as u64;
     let c = desk.counters();
     assert!(told > 0);
     assert_eq!((c.rebuilt, c.late, c.recovered()), (told, told, 0));
@@ -74,25 +79,14 @@ fn without_a_loss() {
 /// The same with payloads of several lengths: each packet that is told has its own.
 #[test]
 fn of_mixed_lengths() {
-    let mut capture: &[u8] = include_bytes!("../../../captures/gst_4x4_mixed.cap");
-    let base = media_number(&capture[3..]).unwrap();
-    let mut r = Receiver::open(SetUp { base, payload: 1316, positions: 400, records: 128, ..SET_UP }).unwrap();
-    let (mut desk, mut sent, mut told) = (Desk::new(), vec![], vec![]);
+    let (capture, mut r) = capture(include_bytes!("../../../captures/gst_4x4_mixed.cap"));
+    let (mut desk, mut told) = (Desk::new(), vec![]);
     desk.begin(&r);
-    while !capture.is_empty() {
-        let len = usize::from(u16::from_be_bytes([capture[1], capture[2]]));
-        let datagram = &capture[3..3 + len];
-        let _ = match capture[0] {
-            1 => {
-                sent.push(&datagram[12..]);
-                desk.media(&mut r, datagram)
-            }
-            2 => desk.column(&mut r, datagram),
-            _ => desk.row(&mut r, datagram),
-        };
+    for (port, datagram) in &capture {
+        offer(&mut desk, &mut r, port, datagram);
         told.extend(desk.rebuilt(&r).map(|packet| (packet.number, packet.payload.to_vec())));
-        capture = &capture[3 + len..];
     }
+    let sent: Vec<&[u8]> = capture.entries().filter(|(port, _)| *port == Port::Media).map(|(_, datagram)| &datagram[12..]).collect();
     assert_eq!((told.len() as u64, desk.counters().spoilt), (desk.counters().rebuilt, 0));
     for (number, payload) in &told {
         assert_eq!(payload[..], *sent[r.position(*number)]);

@@ -1,12 +1,13 @@
 //! The library on live traffic, over UDP on loopback. `tools/live` runs it with FFmpeg, GStreamer and tshark.
 //!
 //!     live receive CAPTURE L D SEED PORT
-//!     live send CAPTURE L D SEED PORT BACK
-//!     live dissect CAPTURE L D PORT PCAP FIELDS
+//!     live send CAPTURE SEED PORT BACK
+//!     live dissect CAPTURE PORT PCAP FIELDS
 //!     live mix CAPTURE SEED MIXED
 //!     live play CAPTURE PORT
 //!
-//! Media, columns and rows go to PORT, PORT + 2 and PORT + 4 of 127.0.0.1. CAPTURE is in the form that captures/README.md gives.
+//! Media, columns and rows go to PORT, PORT + 2 and PORT + 4 of 127.0.0.1. A capture is kept in as many capture files as it needs,
+//! CAPTURE.1.cap, CAPTURE.2.cap and so on.
 mod dissect;
 mod receive;
 mod send;
@@ -24,11 +25,12 @@ const TRANSPORT: usize = 188;
 type Outcome = Result<(), Box<dyn Error>>;
 
 fn run(args: &[&str]) -> Outcome {
-    let profile = |l: &str, d: &str| -> Result<Profile, Box<dyn Error>> { Ok(Profile { l: l.parse()?, d: d.parse()? }) };
     match *args {
-        ["receive", capture, l, d, seed, port] => receive::run(capture, profile(l, d)?, seed.parse()?, port.parse()?),
-        ["send", capture, l, d, seed, port, back] => send::run(capture, profile(l, d)?, seed.parse()?, port.parse()?, back.parse()?),
-        ["dissect", capture, l, d, port, pcap, fields] => dissect::run(capture, profile(l, d)?, port.parse()?, pcap, fields),
+        ["receive", capture, l, d, seed, port] => {
+            receive::run(capture, Profile { l: l.parse()?, d: d.parse()? }, seed.parse()?, port.parse()?)
+        }
+        ["send", capture, seed, port, back] => send::run(capture, seed.parse()?, port.parse()?, back.parse()?),
+        ["dissect", capture, port, pcap, fields] => dissect::run(capture, port.parse()?, pcap, fields),
         ["mix", capture, seed, mixed] => traffic::mix(capture, seed.parse()?, mixed),
         ["play", capture, port] => send::play(capture, port.parse()?),
         _ => Err("usage: live receive|send|dissect|mix|play ..., as the head of rust/live/src/main.rs says".into()),

@@ -1,8 +1,9 @@
 //! Receives the three ports of a sender, drops some of the media, offers the rest to the library and compares what it rebuilt
 //! with what was sent.
-use crate::traffic::{beyond_reach, dropped, group, number, snbase, write_capture, Entry, Kind, Profile};
+use crate::traffic::{beyond_reach, dropped, group, number, snbase, udp, write_capture, Entry, Profile, PORTS};
 use crate::{Outcome, PAYLOAD};
-use congaveil::{Receiver, Refusal, SetUp};
+use congaveil::capture::Port;
+use congaveil::{Receiver, Refusal};
 use std::collections::{BTreeMap, BTreeSet, VecDeque};
 use std::net::{Ipv4Addr, UdpSocket};
 use std::time::{Duration, Instant};
@@ -54,15 +55,13 @@ impl Windows {
 
     /// Opens windows until one reaches as far as a number. Half the numbers count as ahead.
     fn reach(&mut self, number: u16) -> Result<(), Refusal> {
-        let Profile { l, d } = self.profile;
         let positions = self.positions();
         loop {
             let base = self.open.back().map_or(self.first, |(base, _)| base.wrapping_add(positions as u16));
             if number.wrapping_sub(base) >= 0x8000 {
                 return Ok(());
             }
-            let set_up = SetUp { base, l, d, payload: PAYLOAD, positions, records: 4 * (l + d), ssrc: self.ssrc };
-            self.open.push_back((base, Receiver::open(set_up)?));
+            self.open.push_back((base, Receiver::open(self.profile.four_matrices(base, self.ssrc))?));
             self.opened += 1;
             if self.open.len() > 3 {
                 self.close()?;
@@ -73,14 +72,14 @@ impl Windows {
     /// Offers a datagram to the open windows, the oldest first, until one does not call it outside.
     fn offer(&mut self, entry: &Entry) -> Result<(), Refusal> {
         // GStreamer sends the parity of a row before its last packet, and the others may be dropped: it may be the first to come.
-        self.reach(if entry.kind == Kind::Media { number(&entry.datagram) } else { snbase(&entry.datagram) })?;
+        self.reach(if entry.port == Port::Media { number(&entry.datagram) } else { snbase(&entry.datagram) })?;
         let mut answer = Err(Refusal::Outside);
         for (_, receiver) in &mut self.open {
             if answer == Err(Refusal::Outside) {
-                answer = match entry.kind {
-                    Kind::Media => receiver.media(&entry.datagram),
-                    Kind::Column => receiver.column(&entry.datagram),
-                    Kind::Row => receiver.row(&entry.datagram),
+                answer = match entry.port {
+                    Port::Media => receiver.media(&entry.datagram),
+                    Port::Column => receiver.column(&entry.datagram),
+                    Port::Row => receiver.row(&entry.datagram),
                 };
             }
         }
@@ -89,7 +88,7 @@ impl Windows {
                 self.rebuilt += taken.rebuilt;
                 self.spoilt += taken.spoilt;
             }
-            Err(Refusal::Repeat) if entry.kind == Kind::Media => self.late += 1,
+            Err(Refusal::Repeat) if entry.port == Port::Media => self.late += 1,
             Err(refusal) => *self.refused.entry(refusal.number()).or_default() += 1,
         }
         Ok(())
@@ -114,9 +113,9 @@ impl Windows {
 /// A datagram that waits at one of the sockets, media before columns before rows.
 fn next(sockets: &[UdpSocket]) -> io::Result<Option<Entry>> {
     let mut buffer = [0; 2048];
-    for (socket, kind) in sockets.iter().zip(Kind::ALL) {
+    for (socket, port) in sockets.iter().zip(PORTS) {
         match socket.recv(&mut buffer) {
-            Ok(length) => return Ok(Some(Entry { kind, datagram: buffer[..length].to_vec() })),
+            Ok(length) => return Ok(Some(Entry { port, datagram: buffer[..length].to_vec() })),
             Err(e) if e.kind() == io::ErrorKind::WouldBlock => {}
             Err(e) => return Err(e),
         }
@@ -124,10 +123,10 @@ fn next(sockets: &[UdpSocket]) -> io::Result<Option<Entry>> {
     Ok(None)
 }
 
-pub fn run(capture: &str, profile: Profile, seed: u64, port: u16) -> Outcome {
+pub fn run(capture: &str, profile: Profile, seed: u64, from: u16) -> Outcome {
     let mut sockets = Vec::new();
-    for kind in Kind::ALL {
-        let socket = UdpSocket::bind((Ipv4Addr::LOCALHOST, kind.port(port)))?;
+    for port in PORTS {
+        let socket = UdpSocket::bind((Ipv4Addr::LOCALHOST, udp(port, from)))?;
         socket.set_nonblocking(true)?;
         sockets.push(socket);
     }
@@ -146,12 +145,12 @@ pub fn run(capture: &str, profile: Profile, seed: u64, port: u16) -> Outcome {
             }
         };
         last = Instant::now();
-        if entry.datagram.len() < 28 || (windows.is_none() && entry.kind != Kind::Media) {
+        if entry.datagram.len() < 28 || (windows.is_none() && entry.port != Port::Media) {
             return Err(format!("a datagram of {} bytes came where none was expected", entry.datagram.len()).into());
         }
         let windows = windows.get_or_insert_with(|| Windows::new(profile, &entry.datagram));
         let position = number(&entry.datagram).wrapping_sub(windows.first);
-        if entry.kind == Kind::Media && dropped(position, profile, seed) {
+        if entry.port == Port::Media && dropped(position, profile, seed) {
             lost.insert(position);
         } else {
             windows.offer(&entry)?;
@@ -162,13 +161,13 @@ pub fn run(capture: &str, profile: Profile, seed: u64, port: u16) -> Outcome {
     while !windows.open.is_empty() {
         windows.close()?;
     }
-    write_capture(capture, &all)?;
+    write_capture(capture, profile, &all)?;
     report(&windows, &all, &lost)
 }
 
 fn report(windows: &Windows, all: &[Entry], lost: &BTreeSet<u16>) -> Outcome {
     let first = windows.first;
-    let (media, parity): (Vec<&Entry>, Vec<&Entry>) = all.iter().partition(|entry| entry.kind == Kind::Media);
+    let (media, parity): (Vec<&Entry>, Vec<&Entry>) = all.iter().partition(|entry| entry.port == Port::Media);
     let sent: BTreeMap<u16, &Vec<u8>> = media.iter().map(|e| (number(&e.datagram).wrapping_sub(first), &e.datagram)).collect();
     let groups: Vec<Vec<u16>> = parity.iter().map(|e| group(&e.datagram, first)).collect();
     let reach = beyond_reach(lost, &groups);

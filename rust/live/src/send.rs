@@ -1,18 +1,19 @@
 //! Writes the parity of media with the library, sends media and parity with some of the media dropped, and compares what a
 //! decoder sends back with what was sent.
-use crate::traffic::{beyond_reach, dropped, group, media_of_capture, number, timestamp, Entry, Kind, Profile};
+use crate::traffic::{beyond_reach, dropped, group, media_of_capture, number, timestamp, udp, Entry, Profile};
 use crate::{Outcome, PAYLOAD};
+use congaveil::capture::Port;
 use congaveil::{Outer, Receiver, Refusal, SetUp, PARITY_HEADER};
 use std::collections::{BTreeMap, BTreeSet, VecDeque};
 use std::net::{Ipv4Addr, UdpSocket};
 use std::{error::Error, io, thread, time::Duration};
 
-/// The whole matrices of a capture's media.
-pub fn whole_matrices(capture: &str, profile: Profile) -> Result<Vec<Vec<u8>>, Box<dyn Error>> {
-    let mut media = media_of_capture(capture)?;
+/// The profile of a capture, and the whole matrices of its media.
+pub fn whole_matrices(capture: &str) -> Result<(Profile, Vec<Vec<u8>>), Box<dyn Error>> {
+    let (profile, mut media) = media_of_capture(capture)?;
     media.truncate(media.len() / profile.matrix() * profile.matrix());
     match media.first() {
-        Some(_) => Ok(media),
+        Some(_) => Ok((profile, media)),
         None => Err("the capture has no whole matrix".into()),
     }
 }
@@ -27,13 +28,13 @@ pub fn with_parity(media: &[Vec<u8>], profile: Profile) -> Result<Vec<Entry>, Re
         let mut window = Receiver::open(SetUp { base, l, d, payload: PAYLOAD, positions: profile.matrix(), records: 1, ssrc: 0 })?;
         for (i, packet) in matrix.iter().enumerate() {
             window.media(packet)?;
-            entries.push(Entry { kind: Kind::Media, datagram: packet.clone() });
+            entries.push(Entry { port: Port::Media, datagram: packet.clone() });
             if l >= 4 && i % l == l - 1 {
                 let outer = Outer { sequence: rows, timestamp: timestamp(packet), ssrc: 0 };
                 let mut datagram = vec![0; PARITY_HEADER + PAYLOAD];
                 let length = window.write_row(number(&matrix[i + 1 - l]), outer, &mut datagram)?;
                 datagram.truncate(length);
-                entries.push(Entry { kind: Kind::Row, datagram });
+                entries.push(Entry { port: Port::Row, datagram });
                 rows = rows.wrapping_add(1);
             }
             if i % d == d - 1 {
@@ -45,7 +46,7 @@ pub fn with_parity(media: &[Vec<u8>], profile: Profile) -> Result<Vec<Entry>, Re
             let mut datagram = vec![0; PARITY_HEADER + PAYLOAD];
             let length = window.write_column(number(packet), outer, &mut datagram)?;
             datagram.truncate(length);
-            waiting.push_back(Entry { kind: Kind::Column, datagram });
+            waiting.push_back(Entry { port: Port::Column, datagram });
             columns = columns.wrapping_add(1);
         }
     }
@@ -56,7 +57,7 @@ pub fn with_parity(media: &[Vec<u8>], profile: Profile) -> Result<Vec<Entry>, Re
 /// Sends the media of a capture to a port, one packet a millisecond.
 pub fn play(capture: &str, port: u16) -> Outcome {
     let out = UdpSocket::bind((Ipv4Addr::LOCALHOST, 0))?;
-    for datagram in media_of_capture(capture)? {
+    for datagram in media_of_capture(capture)?.1 {
         out.send_to(&datagram, (Ipv4Addr::LOCALHOST, port))?;
         thread::sleep(Duration::from_millis(1));
     }
@@ -76,20 +77,20 @@ fn collect(socket: UdpSocket) -> io::Result<Vec<Vec<u8>>> {
     }
 }
 
-pub fn run(capture: &str, profile: Profile, seed: u64, port: u16, back: u16) -> Outcome {
-    let media = whole_matrices(capture, profile)?;
+pub fn run(capture: &str, seed: u64, to: u16, back: u16) -> Outcome {
+    let (profile, media) = whole_matrices(capture)?;
     let first = number(&media[0]);
     let entries = with_parity(&media, profile)?;
-    let groups: Vec<Vec<u16>> = entries.iter().filter(|e| e.kind != Kind::Media).map(|e| group(&e.datagram, first)).collect();
+    let groups: Vec<Vec<u16>> = entries.iter().filter(|e| e.port != Port::Media).map(|e| group(&e.datagram, first)).collect();
     let lost: BTreeSet<u16> = (0..media.len() as u16).filter(|p| dropped(*p, profile, seed)).collect();
     let reach = beyond_reach(&lost, &groups);
 
     let socket = UdpSocket::bind((Ipv4Addr::LOCALHOST, back))?;
     let collector = thread::spawn(|| collect(socket));
     let out = UdpSocket::bind((Ipv4Addr::LOCALHOST, 0))?;
-    for Entry { kind, datagram } in &entries {
-        if *kind != Kind::Media || !lost.contains(&number(datagram).wrapping_sub(first)) {
-            out.send_to(datagram, (Ipv4Addr::LOCALHOST, kind.port(port)))?;
+    for Entry { port, datagram } in &entries {
+        if *port != Port::Media || !lost.contains(&number(datagram).wrapping_sub(first)) {
+            out.send_to(datagram, (Ipv4Addr::LOCALHOST, udp(*port, to)))?;
             thread::sleep(Duration::from_millis(1));
         }
     }

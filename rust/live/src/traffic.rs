@@ -1,6 +1,8 @@
 //! What the three modes share: captures, the ports, the losses, and what the losses leave, worked out without the library.
 use crate::{Outcome, PAYLOAD, TRANSPORT};
-use std::{collections::BTreeSet, error::Error, fs};
+use congaveil::capture::{self, Capture, Port, ENTRIES_MAX};
+use congaveil::SetUp;
+use std::{collections::BTreeSet, error::Error, fs, io};
 
 /// Columns and rows of the parity matrix.
 #[derive(Clone, Copy)]
@@ -13,75 +15,75 @@ impl Profile {
     pub fn matrix(self) -> usize {
         self.l * self.d
     }
-}
 
-#[derive(Clone, Copy, Debug, PartialEq, Eq)]
-pub enum Kind {
-    Media,
-    Column,
-    Row,
-}
-
-impl Kind {
-    pub const ALL: [Kind; 3] = [Kind::Media, Kind::Column, Kind::Row];
-
-    /// The port of this kind, where media go to `port`.
-    pub fn port(self, port: u16) -> u16 {
-        port + 2 * self as u16
+    /// A window over four matrices, with room for all their parity.
+    pub fn four_matrices(self, base: u16, ssrc: u32) -> SetUp {
+        let Profile { l, d } = self;
+        SetUp { base, l, d, payload: PAYLOAD, positions: 4 * self.matrix(), records: 4 * (l + d), ssrc }
     }
+}
+
+pub const PORTS: [Port; 3] = [Port::Media, Port::Column, Port::Row];
+
+/// The UDP port, where media go to `media`.
+pub fn udp(port: Port, media: u16) -> u16 {
+    media + 2 * (port as u16 - Port::Media as u16)
 }
 
 /// A datagram and the port it belongs to.
 #[derive(Clone)]
 pub struct Entry {
-    pub kind: Kind,
+    pub port: Port,
     pub datagram: Vec<u8>,
 }
 
-/// A run of entries: a byte of kind (1 media, 2 column, 3 row), two bytes of length, big-endian, and the datagram.
-pub fn write_capture(file: &str, entries: &[Entry]) -> Outcome {
-    let mut bytes = Vec::new();
-    for Entry { kind, datagram } in entries {
-        bytes.push(*kind as u8 + 1);
-        bytes.extend((datagram.len() as u16).to_be_bytes());
-        bytes.extend(datagram);
+fn part_name(capture: &str, part: usize) -> String {
+    format!("{capture}.{part}.cap")
+}
+
+/// Writes a capture, in parts of as many entries as a file may have. The base of a part is the number of its first media packet.
+pub fn write_capture(capture: &str, profile: Profile, entries: &[Entry]) -> Outcome {
+    for (part, entries) in (1..).zip(entries.chunks(ENTRIES_MAX)) {
+        let base = entries.iter().find(|entry| entry.port == Port::Media).map_or(0, |entry| number(&entry.datagram));
+        let file = capture::to_vec(&profile.four_matrices(base, 0), entries.iter().map(|entry| (entry.port, &entry.datagram[..])))?;
+        fs::write(part_name(capture, part), file)?;
     }
-    Ok(fs::write(file, bytes)?)
+    Ok(())
 }
 
 /// The media of a capture with payloads of several lengths: two in three are cut to one to seven transport packets, by a seed. Each
 /// transport packet that is left is the one that stood there. The SSRC is 0: GStreamer's encoder takes no other.
 pub fn mix(capture: &str, seed: u64, mixed: &str) -> Outcome {
+    let (profile, media) = media_of_capture(capture)?;
     let mut entries = Vec::new();
-    for mut datagram in media_of_capture(capture)? {
+    for mut datagram in media {
         datagram[8..12].fill(0);
         let drawn = random(seed, u64::from(number(&datagram)) + 200_000) as usize;
         if drawn % 3 > 0 {
             datagram.truncate(12 + TRANSPORT * (1 + drawn / 3 % (PAYLOAD / TRANSPORT)));
         }
-        entries.push(Entry { kind: Kind::Media, datagram });
+        entries.push(Entry { port: Port::Media, datagram });
     }
-    write_capture(mixed, &entries)
+    write_capture(mixed, profile, &entries)
 }
 
-/// The media of a capture, in order; fails unless each number follows the one before.
-pub fn media_of_capture(file: &str) -> Result<Vec<Vec<u8>>, Box<dyn Error>> {
-    let bytes = fs::read(file)?;
-    let (mut rest, mut media): (&[u8], Vec<Vec<u8>>) = (&bytes, Vec::new());
-    while !rest.is_empty() {
-        let length = match *rest {
-            [_, high, low, ..] => 3 + u16::from_be_bytes([high, low]) as usize,
-            _ => return Err("the capture is cut short".into()),
+/// Profile and media of a capture, in order; fails unless each number follows the one before.
+pub fn media_of_capture(capture: &str) -> Result<(Profile, Vec<Vec<u8>>), Box<dyn Error>> {
+    let (mut profile, mut media) = (None, Vec::new());
+    for part in 1.. {
+        let name = part_name(capture, part);
+        let bytes = match fs::read(&name) {
+            Err(e) if e.kind() == io::ErrorKind::NotFound && part > 1 => break,
+            bytes => bytes.map_err(|e| format!("{name}: {e}"))?,
         };
-        let entry = rest.get(..length).ok_or("the capture is cut short")?;
-        if entry[0] == 1 {
-            media.push(entry[3..].to_vec());
-        }
-        rest = &rest[length..];
+        let part = Capture::read(&bytes).map_err(|refusal| format!("{name}: {refusal}"))?;
+        let SetUp { l, d, .. } = part.set_up();
+        profile.get_or_insert(Profile { l, d });
+        media.extend(part.entries().filter(|(port, _)| *port == Port::Media).map(|(_, datagram)| datagram.to_vec()));
     }
     match media.windows(2).find(|pair| number(&pair[1]) != number(&pair[0]).wrapping_add(1)) {
         Some(pair) => Err(format!("the capture has {} after {}", number(&pair[1]), number(&pair[0])).into()),
-        None => Ok(media),
+        None => Ok((profile.ok_or("the capture has no part")?, media)),
     }
 }
 

@@ -30,41 +30,64 @@ pub struct Tally {
     pub full: u64,
 }
 
+/// The parts of a capture.
+macro_rules! parts {
+    ($($name:literal),*) => { &[$(&include_bytes!(concat!("../../../captures/", $name, ".cap"))[..]),*] };
+}
+
 /// The files and their table in captures/README.md.
 pub fn load() -> Result<Vec<Capture>, String> {
     Ok(vec![
-        parse("ff_10x10_k1", include_bytes!("../../../captures/ff_10x10_k1.cap"), 10, 10, 188, 65_500)?,
-        parse("ff_5x5_k4", include_bytes!("../../../captures/ff_5x5_k4.cap"), 5, 5, 752, 65_500)?,
-        parse("gst_4x4_k4", include_bytes!("../../../captures/gst_4x4_k4.cap"), 4, 4, 752, 65_500)?,
-        parse("gst_20x5_k1", include_bytes!("../../../captures/gst_20x5_k1.cap"), 20, 5, 188, 65_300)?,
-        parse("gst_4x4_mixed", include_bytes!("../../../captures/gst_4x4_mixed.cap"), 4, 4, 1316, 65_500)?,
+        join("ff_10x10_k1", parts!("ff_10x10_k1.1", "ff_10x10_k1.2", "ff_10x10_k1.3"), 10, 10, 188, 65_500)?,
+        join("ff_5x5_k4", parts!("ff_5x5_k4"), 5, 5, 752, 65_500)?,
+        join("gst_4x4_k4", parts!("gst_4x4_k4"), 4, 4, 752, 65_500)?,
+        join("gst_20x5_k1", parts!("gst_20x5_k1.1", "gst_20x5_k1.2", "gst_20x5_k1.3"), 20, 5, 188, 65_300)?,
+        join("gst_4x4_mixed", parts!("gst_4x4_mixed"), 4, 4, 1316, 65_500)?,
     ])
 }
 
-fn parse(name: &'static str, file: &[u8], l: usize, d: usize, p: usize, first: u16) -> Result<Capture, String> {
+/// The parts of a capture put together. Each has its L, D and P, and as its base the number of its own first media packet.
+fn join(name: &'static str, parts: &[&[u8]], l: usize, d: usize, p: usize, first: u16) -> Result<Capture, String> {
     let mut entries = Vec::new();
     let mut media: Vec<Vec<u8>> = Vec::new();
-    let mut rest = file;
-    while !rest.is_empty() {
-        if rest.len() < 3 {
-            return Err(format!("{name}: an entry breaks off"));
-        }
-        let (kind, len) = (rest[0], usize::from(rest[1]) * 256 + usize::from(rest[2]));
-        if !(1..=3).contains(&kind) || rest.len() < 3 + len {
-            return Err(format!("{name}: an entry is not of the form"));
-        }
-        let datagram = rest[3..3 + len].to_vec();
-        if kind == 1 {
-            let number = usize::from(datagram[2]) * 256 + usize::from(datagram[3]);
-            if number != (usize::from(first) + media.len()) % 65_536 {
-                return Err(format!("{name}: media packet {} has number {number}", media.len()));
+    for part in parts {
+        let next = (usize::from(first) + media.len()) % 65_536;
+        let of_part = parse(part, [l, d, p, next]).ok_or_else(|| format!("{name}: a part is not of the form"))?;
+        for (port, datagram) in of_part {
+            if port == 1 {
+                let number = number(&datagram[2..4]);
+                if number != (usize::from(first) + media.len()) % 65_536 {
+                    return Err(format!("{name}: media packet {} has number {number}", media.len()));
+                }
+                media.push(datagram.clone());
             }
-            media.push(datagram.clone());
+            entries.push((port, datagram));
         }
-        entries.push((kind, datagram));
-        rest = &rest[3 + len..];
     }
     Ok(Capture { name, l, d, p, first, entries, media })
+}
+
+fn number(bytes: &[u8]) -> usize {
+    bytes.iter().fold(0, |number, &byte| number * 256 + usize::from(byte))
+}
+
+/// The entries of a capture file (document 02, request 2) whose header has this L, D, P and base.
+fn parse(file: &[u8], header: [usize; 4]) -> Option<Vec<(u8, Vec<u8>)>> {
+    let head = file.get(..12)?;
+    if [number(&head[2..3]), number(&head[3..4]), number(&head[4..6]), number(&head[6..8])] != header {
+        return None;
+    }
+    let mut entries = Vec::new();
+    let mut end = 12 + 8 * number(&head[..2]);
+    for line in file.get(12..end)?.chunks(8) {
+        let (port, length, start) = (line[0], number(&line[2..4]), number(&line[4..8]));
+        if !(1..=3).contains(&port) || line[1] != 0 || length > 1500 || start != end {
+            return None;
+        }
+        entries.push((port, file.get(start..start + length)?.to_vec()));
+        end += length;
+    }
+    (entries.len() <= 512 && end == file.len()).then_some(entries)
 }
 
 /// A parity packet of the capture seen from a window: the positions of its group, which may lie outside.
