@@ -135,7 +135,7 @@
  *   large for that is read in pieces, cut anywhere, the reader of an answer going into the
  *   next call; it is whole where the last answer is 0.
  *   Walking: cgv_capture_header and cgv_capture_entry need only the front of a file, 4,108
- *   bytes at most. They judge nothing: ask cgv_capture_read first.
+ *   bytes at most. They do not judge the file: ask cgv_capture_read first.
  *
  *     static const struct cgv_reader start = CGV_CAPTURE_START;
  *     if (cgv_capture_read(start, file, len).number == CGV_DONE)
@@ -235,7 +235,7 @@ struct cgv_entry {
 
 /* Where the reading of a capture file stands. It starts from CGV_CAPTURE_START; only
  * cgv_capture_read makes another one. A made-up one counts as refused where its numbers
- * are out of bounds, and is taken at its word else. */
+ * are out of bounds, and else is taken at its word. */
 struct cgv_reader {
     uint32_t stage, left, next, sum, at, size;
 };
@@ -401,8 +401,8 @@ struct cgv_entry cgv_capture_entry(const uint8_t *front, size_t len, size_t i);
  * bytes of bodies. 21 where that is not the content of one: ports and lengths of different
  * number, or more than 512; a port that is not 1 to 3; a length above 1,500; bodies longer
  * or shorter than the lengths together; L or D above 255; P, n or K above 65,535. Then 4
- * where out is shorter than the file. A refusal leaves out as it was, and so stays what is
- * past the end of the file. */
+ * where out is shorter than the file. A refused call leaves out as it was; else the bytes
+ * past the end of the file stay as they were. */
 struct cgv_written cgv_capture_write(uint16_t base, size_t l, size_t d, size_t p, size_t n,
                                      size_t k, const uint8_t *ports, size_t ports_len,
                                      const uint16_t *lengths, size_t lengths_len,

@@ -949,49 +949,59 @@ static void sizes(size_t entries, size_t length, int good)
     end_content(&c);
 }
 
-/* Files that nobody wrote: too many entries, a body too long, starts with a gap; and fronts that are too short for a header. */
-static void bad_files(void)
+/* A file of so many empty entries, that nobody wrote. */
+static void empty_entries(size_t entries, uint32_t number)
 {
-    struct cgv_reader start = CGV_CAPTURE_START;
-    uint8_t *many = room(12 + 513 * 8), file[12 + 16 + 1501];
-    size_t i, len;
-    memset(many, 0, 12);
-    many[0] = 2, many[1] = 1;
-    for (i = 0; i < 513; i++) {
-        const uint8_t line[8] = {1, 0, 0, 0, 0, 0, (uint8_t)((12 + 513 * 8) >> 8), (uint8_t)(12 + 513 * 8)};
-        memcpy(many + 12 + 8 * i, line, sizeof line);
+    size_t len = 12 + 8 * entries, i;
+    uint8_t *file = room(len);
+    struct cgv_capture h;
+    memcpy(file, example, 12);
+    file[0] = (uint8_t)(entries >> 8), file[1] = (uint8_t)entries;
+    for (i = 0; i < entries; i++) {
+        const uint8_t line[8] = {1, 0, 0, 0, 0, 0, (uint8_t)(len >> 8), (uint8_t)len};
+        memcpy(file + 12 + 8 * i, line, sizeof line);
     }
-    judged("513 entries", many, 12 + 513 * 8, CGV_BAD_CAPTURE);
-    if (!no_header(cgv_capture_header(many, 12)) || !no_entry(entry_of(many, 12 + 513 * 8, 0)))
-        broken("the header of 513 entries");
-    free(many);
+    judged("a file of empty entries", file, len, number);
+    h = cgv_capture_header(file, len);
+    calls++;
+    if (number ? !no_header(h) || !no_entry(entry_of(file, len, 0)) : h.count != entries || no_entry(entry_of(file, len, entries - 1)))
+        broken("the header of empty entries");
+    free(file);
+}
+
+/* A file of two entries, of this length and empty, whose second start is so many bytes off. */
+static void second_start(const char *what, size_t length, int off, uint32_t number)
+{
+    uint8_t file[12 + 16 + CGV_BODY_MAX + 2];
+    size_t start = 28 + length + (size_t)off;
+    const uint8_t lines[16] = {1, 0, (uint8_t)(length >> 8), (uint8_t)length, 0, 0, 0, 28, 2, 0, 0, 0, 0, 0, (uint8_t)(start >> 8), (uint8_t)start};
+    memset(file, 0, sizeof file);
+    memcpy(file, example, 12);
+    memcpy(file + 12, lines, sizeof lines);
+    file[1] = 2;
+    judged(what, file, 28 + length, number);
+    judged(what, file, 28 + length + 1, CGV_BAD_CAPTURE);
+}
+
+/* Fronts that are too short for a header, and readers that no reading has. */
+static void fronts_and_readers(void)
+{
+    struct cgv_reader r = CGV_CAPTURE_START;
+    size_t i;
     for (i = 0; i < 12; i++) {
         uint8_t *front = room(i);
         memcpy(front, example, i);
         if (!no_header(cgv_capture_header(front, i)))
             broken("a front without a header");
         free(front);
+        calls++;
     }
-    memset(file, 0, sizeof file);
-    memcpy(file, example, 12);
-    for (len = 1500; len <= 1501; len++) { /* two entries: of this length, and empty */
-        const uint8_t lines[16] = {1, 0, (uint8_t)(len >> 8), (uint8_t)len, 0, 0, 0, 28, 2, 0, 0, 0, 0, 0, (uint8_t)((28 + len) >> 8), (uint8_t)(28 + len)};
-        file[1] = 2;
-        memcpy(file + 12, lines, sizeof lines);
-        judged("the longest body, and one that is longer", file, 28 + len, len == 1500 ? CGV_DONE : CGV_BAD_CAPTURE);
+    for (i = 0; i < 2; i++) {
+        r.stage = i ? UINT32_MAX : CGV_CAPTURE_REFUSED;
+        if (cgv_capture_read(r, example, sizeof example).reader.stage != CGV_CAPTURE_REFUSED || cgv_capture_read(r, example, 0).number != CGV_BAD_CAPTURE)
+            broken("a refused reader, or one of no stage");
+        calls += 2;
     }
-    file[14] = 0, file[15] = 1, file[27] = 29, file[26] = 0;
-    judged("a body of a byte", file, 29, CGV_DONE);
-    file[27] = 28;
-    judged("bodies that overlap", file, 29, CGV_BAD_CAPTURE);
-    file[27] = 30;
-    judged("bodies with a gap", file, 30, CGV_BAD_CAPTURE);
-    start.stage = CGV_CAPTURE_REFUSED;
-    if (cgv_capture_read(start, example, sizeof example).number != CGV_BAD_CAPTURE)
-        broken("a refused reader");
-    start.stage = UINT32_MAX;
-    if (cgv_capture_read(start, example, sizeof example).reader.stage != CGV_CAPTURE_REFUSED)
-        broken("a reader of no stage");
 }
 
 /* A body is given only where it lies within the file. */
@@ -1020,8 +1030,16 @@ static void captures(void)
         broken("the sizes of a capture file");
     example_file();
     contents();
-    bad_files();
+    fronts_and_readers();
     bodies();
+    empty_entries(CGV_ENTRIES_MAX, CGV_DONE);
+    empty_entries(CGV_ENTRIES_MAX + 1, CGV_BAD_CAPTURE);
+    second_start("a body of a byte", 1, 0, CGV_DONE);
+    second_start("bodies that overlap", 1, -1, CGV_BAD_CAPTURE);
+    second_start("bodies with a gap", 1, 1, CGV_BAD_CAPTURE);
+    second_start("a start past a byte", 1, 256, CGV_BAD_CAPTURE);
+    second_start("the longest body", CGV_BODY_MAX, 0, CGV_DONE);
+    second_start("a body that is longer", CGV_BODY_MAX + 1, 0, CGV_BAD_CAPTURE);
     sizes(0, 0, 1);
     sizes(3, 0, 1);
     sizes(1, CGV_BODY_MAX, 1);

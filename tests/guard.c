@@ -1,7 +1,8 @@
 /* An attack on the C face. Every buffer has exactly its size and lies against a page without access, at its end or at its start;
  * a call that must not write gets the store, and a refused one the output too, through a mapping that can only be read; the
  * datagram can always only be read. What the library reads or writes past a length, or writes where it must not, ends the run.
- * Some lengths claim more than there is: what is past the need must never be touched.
+ * Some lengths claim more than there is: what is past the need must never be touched. Capture files are written, read in pieces and
+ * walked in the same way.
  *
  * Each call is made twice, over plain memory first: answer and every byte must be the same wherever the buffers lie. The second
  * one runs on a painted stack, so that the stack that a call needs is known.

@@ -45,7 +45,8 @@ def ipv6(packet, between=b"", following=17):
     return struct.pack(">IHBB32x", 6 << 28, len(between + packet), following, 64) + between + packet
 
 
-HOP_BY_HOP, FIRST_FRAGMENT, LATER_FRAGMENT = bytes([17, 0, 1, 4, 0, 0, 0, 0]), bytes([17, 0, 0, 1, 0, 0, 0, 0]), bytes([17, 0, 0, 8, 0, 0, 0, 0])
+HOP_BY_HOP = bytes([17, 0, 1, 4, 0, 0, 0, 0])
+FIRST_FRAGMENT, LATER_FRAGMENT = bytes([17, 0, 0, 1, 0, 0, 0, 0]), bytes([17, 0, 0, 8, 0, 0, 0, 0])
 V4, V6, SINGLE, DOUBLE = b"\x08\x00", b"\x86\xdd", b"\x81\x00\x00\x07", b"\x88\xa8\x00\x05\x81\x00\x00\x07"
 KINDS = {  # link type and frame of a UDP packet
     "Ethernet": (1, lambda u: bytes(12) + V4 + ipv4(u) + bytes(7)),
