@@ -577,19 +577,20 @@ static size_t lay_content(void)
 {
     static const uint16_t edges[] = {0, 1, 1499, 1500};
     size_t entries = one_in(16) ? pick(511, 513) : (size_t)draw(12), sum = 0, i;
+    size_t odd = one_in(4) ? (size_t)draw(entries + 1) : entries; /* the entry of any port and length, if there is one */
     uint16_t length;
     place(&parts[P_MARKS], honest[P_MARKS] = entries - (entries && one_in(16)), one_in(2));
     place(&parts[P_LENGTHS], 2 * entries, one_in(2));
     honest[P_LENGTHS] = entries;
     for (i = 0; i < entries; i++) {
-        length = (uint16_t)(one_in(400) ? draw(65536) : one_in(4) ? edges[draw(4)] : draw(40));
+        length = (uint16_t)(i == odd ? draw(65536) : one_in(4) ? edges[draw(4)] : draw(40));
         length = sum + length > MOST / 2 ? 0 : length;
         sum += length;
         memcpy(parts[P_LENGTHS].at[0] + 2 * i, &length, sizeof length);
         memcpy(parts[P_LENGTHS].plain + 2 * i, &length, sizeof length);
     }
     for (i = 0; i < honest[P_MARKS]; i++)
-        parts[P_MARKS].at[0][i] = parts[P_MARKS].plain[i] = (uint8_t)(one_in(400) ? draw(256) : pick(1, 3));
+        parts[P_MARKS].at[0][i] = parts[P_MARKS].plain[i] = (uint8_t)(i == odd ? draw(256) : pick(1, 3));
     place(&parts[P_MEDIA], honest[P_MEDIA] = one_in(16) ? sum - (sum > 0) + 2 * draw(2) : sum, one_in(2));
     return 12 + 8 * entries + sum;
 }
