@@ -1,5 +1,6 @@
-//! The library's C face, as include/congaveil.h declares it, and thin safe wrappers around the seven calls.
+//! The library's C face, as include/congaveil.h declares it, and thin safe wrappers around the eleven calls.
 
+use crate::capture::Content;
 use crate::model::{Answer, Record, Stamp, Window};
 
 #[repr(C)]
@@ -34,6 +35,59 @@ struct CAnswer {
     window: CWindow,
 }
 
+/// What the header of a capture file says.
+#[repr(C)]
+#[derive(Clone, Copy, Debug, Default, PartialEq, Eq)]
+pub struct Header {
+    pub number: u32,
+    pub base: u16,
+    pub count: usize,
+    pub l: usize,
+    pub d: usize,
+    pub p: usize,
+    pub n: usize,
+    pub k: usize,
+}
+
+/// A line of its table of contents.
+#[repr(C)]
+#[derive(Clone, Copy, Debug, Default, PartialEq, Eq)]
+pub struct Entry {
+    pub number: u32,
+    pub port: u8,
+    pub start: usize,
+    pub length: usize,
+}
+
+/// Where the reading of a file stands. All zeros at the start.
+#[repr(C)]
+#[derive(Clone, Copy, Debug, Default, PartialEq, Eq)]
+pub struct Reader {
+    pub stage: u32,
+    pub left: u32,
+    pub next: u32,
+    pub sum: u32,
+    pub at: u32,
+    pub size: u32,
+}
+
+/// The stage of a reader that refuses whatever follows.
+pub const REFUSED: u32 = 3;
+
+#[repr(C)]
+#[derive(Clone, Copy, Debug)]
+pub struct Reading {
+    pub number: u32,
+    pub reader: Reader,
+}
+
+#[repr(C)]
+#[derive(Clone, Copy, Debug, PartialEq, Eq)]
+pub struct Written {
+    pub number: u32,
+    pub count: usize,
+}
+
 /// A record as the bytes it is lent in.
 #[repr(C, align(4))]
 #[derive(Clone, Copy, Debug, PartialEq, Eq)]
@@ -45,6 +99,8 @@ pub const RECORD: usize = 12;
 // C's order and no gap: the fields stand at 0, 1, 2, 4, 8 and 10.
 const _: () = assert!(std::mem::size_of::<CRecord>() == RECORD && std::mem::align_of::<CRecord>() == 4);
 const _: () = assert!(std::mem::size_of::<RawRecord>() == RECORD && std::mem::size_of::<CAnswer>() == 88);
+const _: () = assert!(std::mem::size_of::<Header>() == 56 && std::mem::size_of::<Entry>() == 24);
+const _: () = assert!(std::mem::size_of::<Reader>() == 24 && std::mem::size_of::<Reading>() == 28 && std::mem::size_of::<Written>() == 16);
 
 impl RawRecord {
     pub fn set(&mut self, record: Record) {
@@ -107,6 +163,28 @@ declare!(
     *const CRecord,
     [out: *mut u8, out_len: usize]
 );
+
+extern "C" {
+    fn cgv_capture_read(r: Reader, piece: *const u8, len: usize) -> Reading;
+    fn cgv_capture_header(front: *const u8, len: usize) -> Header;
+    fn cgv_capture_entry(front: *const u8, len: usize, i: usize) -> Entry;
+    fn cgv_capture_write(
+        base: u16,
+        l: usize,
+        d: usize,
+        p: usize,
+        n: usize,
+        k: usize,
+        ports: *const u8,
+        ports_len: usize,
+        lengths: *const u16,
+        lengths_len: usize,
+        bodies: *const u8,
+        bodies_len: usize,
+        out: *mut u8,
+        out_len: usize,
+    ) -> Written;
+}
 
 /// The lent store. A slice's pointer is valid and not null also where it is empty.
 pub struct Lent<'a> {
@@ -198,6 +276,49 @@ pub fn write_column(w: Window, snbase: u16, stamp: Stamp, s: &Lent, out: &mut [u
 
 pub fn write_row(w: Window, snbase: u16, stamp: Stamp, s: &Lent, out: &mut [u8]) -> Answer {
     with_store!(cgv_write_row, [to_c(&w), snbase, stamp.sequence, stamp.timestamp, stamp.ssrc], s, out)
+}
+
+/// A further piece of a capture file.
+pub fn capture_read(r: Reader, piece: &[u8]) -> Reading {
+    unsafe { cgv_capture_read(r, piece.as_ptr(), piece.len()) }
+}
+
+/// The header, from the front of a file.
+pub fn capture_header(front: &[u8]) -> Header {
+    unsafe { cgv_capture_header(front.as_ptr(), front.len()) }
+}
+
+/// Entry i, from the front of a file.
+pub fn capture_entry(front: &[u8], i: usize) -> Entry {
+    unsafe { cgv_capture_entry(front.as_ptr(), front.len(), i) }
+}
+
+pub fn capture_write(c: &Content, out: &mut [u8]) -> Written {
+    let w = to_c(&c.asked);
+    let (ports, lengths, bodies) = (&c.ports, &c.lengths, &c.bodies);
+    unsafe {
+        cgv_capture_write(
+            w.base,
+            w.l,
+            w.d,
+            w.p,
+            w.n,
+            w.k,
+            ports.as_ptr(),
+            ports.len(),
+            lengths.as_ptr(),
+            lengths.len(),
+            bodies.as_ptr(),
+            bodies.len(),
+            out.as_mut_ptr(),
+            out.len(),
+        )
+    }
+}
+
+/// What was lent to a call that may not change it, looked at anew.
+pub fn anew<T>(lent: &[T]) -> &[T] {
+    unsafe { std::ptr::read_volatile(&lent) }
 }
 
 /// A window of the library with a store of its own, for the parts that look at the library alone.

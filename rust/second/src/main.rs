@@ -1,18 +1,23 @@
-//! A second program for document 01 and request 1 of document 02, run against the library: random traffic, brute force on small
-//! windows, real captures.
+//! A second program for document 01 and requests 1 and 2 of document 02, run against the library: random traffic, brute
+//! force on small windows, real captures, capture files.
 //!
-//! `second` runs a fixed seeded set, `second --seed S` replays one seed, `second --seconds N [--seed S]` is the long run, which
-//! takes the seeds from S onward. A difference is printed with its seed, and the exit status is then 1.
+//! `second` runs a fixed seeded set, `second --seed S` takes one seed again, `second --seconds N [--seed S]` is the long run, which
+//! takes the seeds from S onward. `second --replay PROGRAM [--seed S]` runs the program that replays a capture file, on files of
+//! the seeds from S onward. A difference is printed with its seed, and the exit status is then 1.
 
+mod capture;
 mod captures;
 mod face;
+mod files;
 mod model;
 mod pair;
+mod replays;
 mod rng;
 mod stopping;
 mod traffic;
 mod wire;
 
+use std::ffi::OsString;
 use std::process::ExitCode;
 use std::time::{Duration, Instant};
 
@@ -20,22 +25,32 @@ use std::time::{Duration, Instant};
 const WINDOWS: u64 = 80_000;
 const LISTS: u64 = 20_000;
 const PATTERNS: u64 = 250;
+/// After so many windows comes the content of a capture file. In turns a wrong copy of either is found early.
+const WINDOWS_A_CONTENT: u64 = 16;
 
-/// Each number, and each kind of spoilt rebuild, must be met so often in the run without arguments.
+/// Each number, each kind of spoilt rebuild, and each limit and breach of a capture file must be met so often in the run without
+/// arguments.
 const LEAST: u64 = 100;
+
+/// How often each was met, in one line.
+fn times<T: std::fmt::Display>(met: &[(T, u64)]) -> String {
+    let each: Vec<String> = met.iter().map(|(what, times)| format!("{what}: {times}")).collect();
+    each.join(", ")
+}
 
 struct Run {
     traffic: pair::Tally,
     stopping: stopping::Tally,
     captures: captures::Tally,
     files: Vec<captures::Capture>,
+    contents: files::Tally,
 }
 
 impl Run {
     fn new() -> Result<Run, String> {
         let files = captures::load()?;
         let captures = captures::Tally { captures: files.len() as u64, ..Default::default() };
-        Ok(Run { traffic: Default::default(), stopping: Default::default(), captures, files })
+        Ok(Run { traffic: Default::default(), stopping: Default::default(), captures, files, contents: Default::default() })
     }
 
     fn window(&mut self, seed: u64) -> Result<(), String> {
@@ -57,15 +72,19 @@ impl Run {
         Ok(())
     }
 
+    fn content(&mut self, seed: u64) -> Result<(), String> {
+        files::run(seed, &mut self.contents).map_err(|text| format!("DIFFERENCE in a capture file, seed {seed}: {text}"))
+    }
+
     fn print(&self) {
         let t = &self.traffic;
-        let numbers: Vec<String> = t.numbers.iter().enumerate().map(|(number, times)| format!("{number}: {times}")).collect();
+        let numbers: Vec<(usize, u64)> = t.numbers.into_iter().enumerate().collect();
         println!(
             "traffic: {} windows of {} profiles, {} calls compared, answered {}; {} packets rebuilt; 0 differences",
             t.windows,
             t.profiles.len(),
             t.calls,
-            numbers.join(", "),
+            times(&numbers),
             t.rebuilt
         );
         let x = &t.spoilt;
@@ -90,11 +109,22 @@ impl Run {
             c.compared,
             format_args!("{} offered to a full table; 0 wrong", c.full)
         );
+        let f = &self.contents;
+        println!(
+            "capture files: {} contents, {} files read in {} pieces, {} headers and entries compared; 0 differences",
+            f.contents, f.files, f.pieces, f.fronts
+        );
+        for (what, kinds) in f.met() {
+            println!("  {what}: {}", times(&kinds));
+        }
     }
 
     fn fixed(&mut self) -> Result<(), String> {
         for seed in 1..=WINDOWS {
             self.window(seed)?;
+            if seed % WINDOWS_A_CONTENT == 0 {
+                self.content(seed / WINDOWS_A_CONTENT)?;
+            }
         }
         for seed in 1..=LISTS {
             self.list(seed)?;
@@ -103,6 +133,14 @@ impl Run {
             self.pattern(seed)?;
         }
         self.print();
+        self.enough()
+    }
+
+    fn enough(&self) -> Result<(), String> {
+        let mut kinds = self.contents.met().into_iter().flat_map(|(_, kinds)| kinds);
+        if let Some((name, _)) = kinds.find(|&(_, times)| times < LEAST) {
+            return Err(format!("of capture files, {name} was met fewer than {LEAST} times"));
+        }
         let x = self.traffic.spoilt;
         match self.traffic.numbers.iter().position(|&times| times < LEAST) {
             Some(number) => Err(format!("number {number} was met fewer than {LEAST} times")),
@@ -114,9 +152,9 @@ impl Run {
         }
     }
 
-    fn replay(&mut self, seed: u64) -> Result<(), String> {
-        // All three parts are shown, also where the first one differs.
-        let results = [self.window(seed), self.list(seed), self.pattern(seed)];
+    fn again(&mut self, seed: u64) -> Result<(), String> {
+        // All four parts are shown, also where the first one differs.
+        let results = [self.window(seed), self.list(seed), self.pattern(seed), self.content(seed)];
         let faults: Vec<String> = results.into_iter().filter_map(Result::err).collect();
         if faults.is_empty() {
             self.print();
@@ -132,6 +170,9 @@ impl Run {
             for i in 0..200 {
                 self.window(first.wrapping_add(round * 200 + i))?;
             }
+            for i in 0..12 {
+                self.content(first.wrapping_add(round * 12 + i))?;
+            }
             for i in 0..50 {
                 self.list(first.wrapping_add(round * 50 + i))?;
             }
@@ -143,33 +184,45 @@ impl Run {
     }
 }
 
-fn arguments() -> Option<(Option<u64>, Option<u64>)> {
-    let (mut seconds, mut seed) = (None, None);
-    let mut rest = std::env::args().skip(1);
+#[derive(Default)]
+struct Arguments {
+    seconds: Option<u64>,
+    seed: Option<u64>,
+    program: Option<OsString>,
+}
+
+fn arguments() -> Option<Arguments> {
+    let mut found = Arguments::default();
+    let mut rest = std::env::args_os().skip(1);
     while let Some(name) = rest.next() {
-        let value = rest.next()?.parse().ok()?;
-        match name.as_str() {
-            "--seconds" => seconds = Some(value),
-            "--seed" => seed = Some(value),
+        let value = rest.next()?;
+        let number = || value.to_str()?.parse().ok();
+        match name.to_str()? {
+            "--seconds" => found.seconds = Some(number()?),
+            "--seed" => found.seed = Some(number()?),
+            "--replay" => found.program = Some(value),
             _ => return None,
         }
     }
-    Some((seconds, seed))
+    Some(found)
 }
 
 fn main() -> ExitCode {
-    let (seconds, seed) = match arguments() {
-        Some(both) => both,
-        None => {
-            eprintln!("use: second [--seconds N] [--seed S]");
+    let Arguments { seconds, seed, program } = match arguments() {
+        Some(found) if found.seconds.is_none() || found.program.is_none() => found,
+        _ => {
+            eprintln!("use: second [--seconds N] [--seed S], second --replay PROGRAM [--seed S]");
             return ExitCode::from(2);
         }
     };
-    let result = Run::new().and_then(|mut run| match (seconds, seed) {
-        (None, None) => run.fixed(),
-        (None, Some(seed)) => run.replay(seed),
-        (Some(seconds), seed) => run.long(Duration::from_secs(seconds), seed.unwrap_or(1_000_000_000)),
-    });
+    let result = match program {
+        Some(program) => replays::run(&program, seed.unwrap_or(1)),
+        None => Run::new().and_then(|mut run| match (seconds, seed) {
+            (None, None) => run.fixed(),
+            (None, Some(seed)) => run.again(seed),
+            (Some(seconds), seed) => run.long(Duration::from_secs(seconds), seed.unwrap_or(1_000_000_000)),
+        }),
+    };
     match result {
         Ok(()) => ExitCode::SUCCESS,
         Err(text) => {

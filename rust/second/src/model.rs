@@ -43,6 +43,40 @@ pub struct Store<'a> {
     pub records: &'a mut [Record],
 }
 
+/// A store of its own, full of old bytes.
+pub struct Held {
+    pub media: Vec<u8>,
+    pub timestamps: Vec<u32>,
+    pub lengths: Vec<u16>,
+    pub marks: Vec<u8>,
+    pub parity: Vec<u8>,
+    pub records: Vec<Record>,
+}
+
+impl Held {
+    pub fn new(n: usize, k: usize, p: usize) -> Held {
+        Held {
+            media: vec![9; n * p],
+            timestamps: vec![9; n],
+            lengths: vec![9; n],
+            marks: vec![9; n],
+            parity: vec![9; k * p],
+            records: vec![Record { stream: 9, snbase: 9, timestamp_recovery: 9, length_recovery: 9, payload_length: 9, in_use: 9 }; k],
+        }
+    }
+
+    pub fn lend(&mut self) -> Store<'_> {
+        Store {
+            media: &mut self.media,
+            timestamps: &mut self.timestamps,
+            lengths: &mut self.lengths,
+            marks: &mut self.marks,
+            parity: &mut self.parity,
+            records: &mut self.records,
+        }
+    }
+}
+
 /// What every call gives back.
 #[derive(Clone, Copy, Debug, PartialEq, Eq)]
 pub struct Answer {
@@ -65,7 +99,7 @@ fn refuse(number: u32, window: Window) -> Answer {
 }
 
 /// A refusal if the condition holds. Chained with `?`, the first that applies is given.
-fn no_if(condition: bool, number: u32) -> Result<(), u32> {
+pub fn no_if(condition: bool, number: u32) -> Result<(), u32> {
     if condition {
         Err(number)
     } else {
@@ -155,7 +189,7 @@ fn xor_into(target: &mut [u8], other: &[u8]) {
 
 // ---- refusals 1 to 5 ----
 
-fn check_numbers(w: &Window) -> Result<(), u32> {
+pub fn check_numbers(w: &Window) -> Result<(), u32> {
     no_if(w.l < 1 || w.l > 20 || w.d < 4 || w.d > 20 || w.l * w.d > 100, 1)?;
     no_if(!(1..=7).any(|k| w.p == k * 188 || w.p == k * 204), 2)?;
     no_if(w.n < w.l * w.d || w.n > 400 || w.k < 1 || w.k > 128, 3)
@@ -224,11 +258,11 @@ pub fn open(asked: Window, s: &mut Store) -> Answer {
 
 // ---- the datagrams ----
 
-fn two(datagram: &[u8], at: usize) -> u16 {
+pub fn two(datagram: &[u8], at: usize) -> u16 {
     u16::from_be_bytes([datagram[at], datagram[at + 1]])
 }
 
-fn four(datagram: &[u8], at: usize) -> u32 {
+pub fn four(datagram: &[u8], at: usize) -> u32 {
     u32::from_be_bytes([datagram[at], datagram[at + 1], datagram[at + 2], datagram[at + 3]])
 }
 
@@ -504,39 +538,6 @@ fn parity_bytes(w: &Window, stream: u8, snbase: u16, stamp: Stamp, s: &Store, ou
 #[cfg(test)]
 mod tests {
     use super::*;
-
-    struct Held {
-        media: Vec<u8>,
-        timestamps: Vec<u32>,
-        lengths: Vec<u16>,
-        marks: Vec<u8>,
-        parity: Vec<u8>,
-        records: Vec<Record>,
-    }
-
-    impl Held {
-        fn new(n: usize, k: usize, p: usize) -> Held {
-            Held {
-                media: vec![9; n * p],
-                timestamps: vec![9; n],
-                lengths: vec![9; n],
-                marks: vec![9; n],
-                parity: vec![9; k * p],
-                records: vec![Record { stream: 9, snbase: 9, timestamp_recovery: 9, length_recovery: 9, payload_length: 9, in_use: 9 }; k],
-            }
-        }
-
-        fn lend(&mut self) -> Store<'_> {
-            Store {
-                media: &mut self.media,
-                timestamps: &mut self.timestamps,
-                lengths: &mut self.lengths,
-                marks: &mut self.marks,
-                parity: &mut self.parity,
-                records: &mut self.records,
-            }
-        }
-    }
 
     fn asked(base: u16, l: u64, d: u64, p: u64, n: u64, k: u64) -> Window {
         Window { base, ssrc: 1, l, d, p, n, k, present: 0, in_use: 0 }

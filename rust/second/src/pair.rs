@@ -263,9 +263,7 @@ impl Pair {
                     Call::Column(_) => face::column(w, &lent, &mut s),
                     _ => face::row(w, &lent, &mut s),
                 };
-                // Looked at anew: the call was lent it and may not have changed it.
-                let after: &[u8] = unsafe { std::ptr::read_volatile(&&lent[..]) };
-                return (answer, after == &datagram[..]);
+                return (answer, face::anew(&lent) == &datagram[..]);
             }
             Call::Read(number) => face::read(w, *number, &s, out),
             Call::WriteColumn(snbase, stamp) => face::write_column(w, *snbase, *stamp, &s, out),
@@ -275,7 +273,7 @@ impl Pair {
     }
 }
 
-fn first_difference<T: PartialEq + std::fmt::Debug>(name: &str, parts: &[Vec<T>; 2], faults: &mut Vec<String>) {
+pub fn first_difference<T: PartialEq + std::fmt::Debug>(name: &str, parts: &[Vec<T>; 2], faults: &mut Vec<String>) {
     if parts[0] != parts[1] {
         let i = (0..parts[0].len()).find(|&i| parts[0][i] != parts[1][i]).unwrap();
         let how_many = (0..parts[0].len()).filter(|&i| parts[0][i] != parts[1][i]).count();
@@ -283,12 +281,14 @@ fn first_difference<T: PartialEq + std::fmt::Debug>(name: &str, parts: &[Vec<T>;
     }
 }
 
+pub fn hex(bytes: &[u8]) -> String {
+    let digits: Vec<String> = bytes.iter().map(|byte| format!("{byte:02X}")).collect();
+    digits.join(" ")
+}
+
 /// A call in one line, of a datagram its length and headers.
 fn short(call: &Call) -> String {
-    let bytes = |name: &str, datagram: &[u8]| {
-        let headers: Vec<String> = datagram.iter().take(28).map(|byte| format!("{byte:02X}")).collect();
-        format!("{name}, {} bytes: {} ...", datagram.len(), headers.join(" "))
-    };
+    let bytes = |name: &str, datagram: &[u8]| format!("{name}, {} bytes: {} ...", datagram.len(), hex(&datagram[..datagram.len().min(28)]));
     match call {
         Call::Media(datagram) => bytes("media", datagram),
         Call::Column(datagram) => bytes("column", datagram),

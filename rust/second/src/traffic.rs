@@ -20,7 +20,7 @@ pub fn profiles() -> Vec<(u64, u64)> {
     list
 }
 
-fn sizes() -> Vec<u64> {
+pub fn sizes() -> Vec<u64> {
     (1..=7).flat_map(|k| [k * 188, k * 204]).collect()
 }
 
@@ -181,7 +181,7 @@ fn make_up(rng: &mut Rng, window: Window) -> Window {
 }
 
 /// The datagrams of a window in the order in which they are offered, each with its port: 1 media, 2 column, 3 row.
-fn offers(rng: &mut Rng, stretch: &Stretch, lies: u64, repeats: u64) -> Vec<(u8, Vec<u8>)> {
+pub fn offers(rng: &mut Rng, stretch: &Stretch, lies: u64, repeats: u64) -> Vec<(u8, Vec<u8>)> {
     let n = stretch.n();
     let lost = losses(rng, n);
     let mut list: Vec<(u64, u8, Vec<u8>)> = Vec::new();
@@ -355,7 +355,7 @@ fn lie_of_lengths(rng: &mut Rng, stretch: &Stretch, stream: u8, start: i64, data
 }
 
 /// Alters a datagram that was made for a port.
-fn alter(rng: &mut Rng, stretch: &Stretch, port: u8, datagram: &mut Vec<u8>) {
+pub fn alter(rng: &mut Rng, stretch: &Stretch, port: u8, datagram: &mut Vec<u8>) {
     for _ in 0..rng.pick(&[1, 1, 1, 2, 3]) {
         if datagram.len() < 28 {
             return;
