@@ -332,7 +332,7 @@ pub extern "C" fn cgv_write_row(
 pub extern "C" fn cgv_capture_read(r: Reader, piece: &[u8]) -> Reading
     ensures { λ q. ⌜ q ≡ readOn r (now (piece .entry)) ⌝ }
 {
-    capture::read(r, piece)
+    load::read(r, piece)
 }
 
 // The header of a capture file, of the front of it.
@@ -340,7 +340,7 @@ pub extern "C" fn cgv_capture_read(r: Reader, piece: &[u8]) -> Reading
 pub extern "C" fn cgv_capture_header(front: &[u8]) -> Header
     ensures { λ r. ⌜ r ≡ headerRead (now (front .entry)) ⌝ }
 {
-    capture::header_of(front)
+    load::header_of(front)
 }
 
 // Entry i of a capture file, of the front of it.
@@ -348,7 +348,7 @@ pub extern "C" fn cgv_capture_header(front: &[u8]) -> Header
 pub extern "C" fn cgv_capture_entry(front: &[u8], i: usize) -> Line
     ensures { λ r. ⌜ r ≡ entryRead (now (front .entry)) i ⌝ }
 {
-    capture::entry_of(front, i)
+    load::entry_of(front, i)
 }
 
 // Writes a capture file of what a card lends; the count is of bytes written.
@@ -367,5 +367,5 @@ pub extern "C" fn cgv_capture_write(
 ) -> Written
     ensures { λ r. ⌜ record { written = r; out = now (out .exit) } ≡ wrote (record { base = base; l = l; d = d; p = p; n = n; k = k; ports = now (ports .entry); lengths = now (lengths .entry); bodies = now (bodies .entry) }) (now (out .entry)) ⌝ }
 {
-    capture::write(base, l, d, p, n, k, ports, lengths, bodies, out)
+    save::write(base, l, d, p, n, k, ports, lengths, bodies, out)
 }

@@ -77,7 +77,7 @@ pub fn rest(fd: i32, before: Reading) -> u32 {
         }
         let n = io::count(got, &piece);
         let reader = r.reader;
-        let next = capture::read(reader, &piece[..n]);
+        let next = load::read(reader, &piece[..n]);
         r = next;
         turns -= 1;
     }

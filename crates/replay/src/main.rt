@@ -66,13 +66,13 @@ fn judge(fd: i32, front: &[u8], h: Header, reading: Reading) {
 fn replay(fd: i32) {
     let mut front = [0u8; 4108];
     let head = input::fill(fd, &mut front, 0, 12);
-    let h = capture::header_of(&front);
+    let h = load::header_of(&front);
     if (head < 12) | (h.number != 0) {
         text::say_number(21);
         return;
     }
     let end = input::fill(fd, &mut front, 12, 12 + 8 * h.count);
-    let reading = capture::read(input::begin(), &front[..end]);
+    let reading = load::read(input::begin(), &front[..end]);
     judge(fd, &front, h, reading);
 }
 

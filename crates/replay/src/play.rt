@@ -95,10 +95,10 @@ fn offer_entry(
     text: &mut [u8],
 ) -> Stand {
     let mut body = [0u8; 1500];
-    let e = capture::entry_of(front, i);
+    let e = load::entry_of(front, i);
     let got = crate::input::fill(fd, &mut body, 0, e.length);
     let before = s.reading;
-    let reading = capture::read(before.reader, &body[..got]);
+    let reading = load::read(before.reader, &body[..got]);
     let w = s.receiver;
     let step = hand_in(
         w,

@@ -1,6 +1,0 @@
-pub mod Kept
-pub mod Front
-pub mod Turns
-pub mod Fit
-pub mod Lay
-pub mod Writes

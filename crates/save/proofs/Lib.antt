@@ -1,0 +1,4 @@
+pub mod Turns
+pub mod Fit
+pub mod Lay
+pub mod Writes
