@@ -142,6 +142,14 @@ run-skip (line left next sum at size) l e = absurd (let z : _≡_ {A = ℕ} 0 1 
 run-skip (body left) l e = skip-body l left (leb (length l) left) refl
 run-skip refused l e = run-refused l
 
+-- one byte
+skip-one : (left : ℕ) → skipped 1 (body left) ≡ less left
+skip-one zero = refl
+skip-one (suc left) = rw (le-leb 1 (suc left) (omega arith)) (ap body (omega arith))
+
+pub skip-fed : (b left : ℕ) (r q : Stage) → r ≡ body left → q ≡ skipped 1 (body left) → q ≡ feed b r
+skip-fed b left r q e f = f ∙ skip-one left ∙ ap (feed b) (sym e)
+
 -- the rest of a piece, from a place on
 pub skip-rest : (r : Stage) (l : List ℕ) (i : ℕ) → counts r ≡ true → skipped (length l - i) r ≡ run r (drop i l)
 skip-rest r l i e = ap (λ (n : ℕ). skipped n r) (sym (length-drop i l)) ∙ sym (run-skip r (drop i l) e)
@@ -157,10 +165,6 @@ run-end r l i h = ap (run r) (drop-of-length-le l h)
 pub enter-line : (left next sum : ℕ) → (left ≡ 0 → ⊥) → line (left - 1) next sum 0 0 ≡ enter left next sum
 enter-line zero next sum e = absurd (e refl)
 enter-line (suc left) next sum e = ap (λ (n : ℕ). line n next sum 0 0) (omega arith)
-
-pub less-body : (left : ℕ) → (left ≡ 0 → ⊥) → body (left - 1) ≡ less left
-less-body zero e = absurd (e refl)
-less-body (suc left) e = ap body (omega arith)
 
 module _ (at count b c : ℕ) (e : c ≡ countAfter at count b) where
   pub head-enter : (r : Stage) → c ≤ 512 → at + 1 ≡ 12 → r ≡ enter c (12 + 8 * c) 0 → r ≡ feed b (head at count)

@@ -104,13 +104,15 @@ fn feed_line(left: u32, next: u32, sum: u32, at: u32, size: u32, b: u32) -> Stag
     }
 }
 
-fn feed_body(left: u32) -> Stage
-    ensures { λ r. ⌜ r ≡ less left ⌝ }
+// So many bytes of the bodies more.
+fn skip_body(left: u32, n: usize) -> Stage
+    requires { ⌜ left ≤ mostBodies ⌝ }
+    ensures { λ r. ⌜ r ≡ skipped n (body left) ⌝ }
 {
-    if left == 0 {
-        Stage::Refused
+    if n <= left as usize {
+        Stage::Body(left - n as u32)
     } else {
-        Stage::Body(left - 1)
+        Stage::Refused
     }
 }
 
@@ -122,7 +124,7 @@ fn feed(r: Stage, b: u8) -> Stage
     match r {
         Stage::Head(at, count) => feed_head(at, count, b as u32),
         Stage::Line(left, next, sum, at, size) => feed_line(left, next, sum, at, size, b as u32),
-        Stage::Body(left) => feed_body(left),
+        Stage::Body(left) => skip_body(left, 1),
         Stage::Refused => Stage::Refused,
     }
 }
@@ -136,18 +138,6 @@ fn counts(s: Stage) -> bool
         Stage::Line(_, _, _, _, _) => false,
         Stage::Body(_) => true,
         Stage::Refused => true,
-    }
-}
-
-// So many bytes of the bodies more.
-fn skip_body(left: u32, n: usize) -> Stage
-    requires { ⌜ left ≤ mostBodies ⌝ }
-    ensures { λ r. ⌜ r ≡ skipped n (body left) ⌝ }
-{
-    if n <= left as usize {
-        Stage::Body(left - n as u32)
-    } else {
-        Stage::Refused
     }
 }
 

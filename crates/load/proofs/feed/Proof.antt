@@ -1,9 +1,7 @@
 -- `load::feed` meets its contract.
-use mathlib.Core.Path.{subst}
+use mathlib.Core.Path.{sym, ap, subst, _∙_}
+use Rattle.capture.specs.Stage.{feed, skip-fed}
 use Rattle.capture.specs.Small.{Small}
-use Rattle.capture.specs.Stage.{feed}
-use mathlib.Core.Path.{sym, ap, _∙_}
-use Prim.Native.Nat.{_-_}
 use borrow.Author.Needs.{needs}
 use Rattle.load.proofs.feed.Statement.{statement}
 use Rattle.load.proofs.feed.Tie as tie
@@ -23,8 +21,8 @@ feed-line-requires c κs = (subst Small (c .before .r2 .given .1) (c .before .be
 enum-known-r-3 : tie.Need-enum-known-r-3
 enum-known-r-3 c = search needs
 
-feed-body-requires : tie.Need-feed-body-requires
-feed-body-requires c κs = search needs
+skip-body-requires : tie.Need-skip-body-requires
+skip-body-requires c κs = subst Small (c .before .r3 .given .1) (c .before .before .before .pre)
 
 enum-told : tie.Need-enum-told
 enum-told c = search needs
@@ -36,23 +34,10 @@ returns-2 : tie.Need-returns-2
 returns-2 c = c .feed-line .ensures ∙ ap (feed (c .before .before .before .before .args .b)) (sym (c .before .before .r2 .given .1))
 
 returns-3 : tie.Need-returns-3
-returns-3 c = search needs
+returns-3 c = skip-fed (c .before .before .before .before .args .b) _ _ _ (c .before .before .r3 .given .1) (c .skip-body .ensures)
 
 returns-4 : tie.Need-returns-4
 returns-4 c = search needs
 
 pub feed-spec : {M : Type 1} → statement M
-feed-spec =
-    tie.close
-    (tie.spec
-    enum-known-r
-    feed-head-requires
-    enum-known-r-2
-    feed-line-requires
-    enum-known-r-3
-    feed-body-requires
-    enum-told
-    returns
-    returns-2
-    returns-3
-    returns-4)
+feed-spec = tie.close (tie.spec enum-known-r feed-head-requires enum-known-r-2 feed-line-requires enum-known-r-3 skip-body-requires enum-told returns returns-2 returns-3 returns-4)
