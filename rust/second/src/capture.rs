@@ -29,6 +29,19 @@ pub struct Content {
     pub bodies: Vec<u8>,
 }
 
+impl Content {
+    /// Port and body of each entry, of a proper content.
+    pub fn entries(&self) -> Vec<(u8, &[u8])> {
+        let mut rest = &self.bodies[..];
+        let cut = |(&port, &length): (&u8, &u16)| {
+            let (body, after) = rest.split_at(usize::from(length));
+            rest = after;
+            (port, body)
+        };
+        self.ports.iter().zip(&self.lengths).map(cut).collect()
+    }
+}
+
 /// What a line of the table says.
 #[derive(Clone, Copy, Debug, PartialEq, Eq)]
 pub struct Line {
@@ -157,10 +170,7 @@ fn offer_all(content: &Content) -> String {
     let mut held = Held::new(asked.n as usize, asked.k as usize, asked.p as usize);
     let mut w = open(asked, &mut held.lend()).window;
     let mut text = String::new();
-    let mut rest = &content.bodies[..];
-    for (&port, &length) in content.ports.iter().zip(&content.lengths) {
-        let (body, after) = rest.split_at(usize::from(length));
-        rest = after;
+    for (port, body) in content.entries() {
         let offer = [media, column, row][usize::from(port) - 1];
         let answer = offer(w, body, &mut held.lend());
         w = answer.window;

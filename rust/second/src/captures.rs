@@ -1,6 +1,7 @@
 //! Traffic of real senders with losses of all kinds: nothing present may differ from what was sent, nothing may be missing
 //! that the received parity allows, nothing is spoilt, and the parity that the library writes is the sender's.
 
+use crate::capture;
 use crate::face::Receiver;
 use crate::model::{Stamp, Window};
 use crate::rng::Rng;
@@ -51,43 +52,23 @@ fn join(name: &'static str, parts: &[&[u8]], l: usize, d: usize, p: usize, first
     let mut entries = Vec::new();
     let mut media: Vec<Vec<u8>> = Vec::new();
     for part in parts {
-        let next = (usize::from(first) + media.len()) % 65_536;
-        let of_part = parse(part, [l, d, p, next]).ok_or_else(|| format!("{name}: a part is not of the form"))?;
-        for (port, datagram) in of_part {
+        let content = capture::read(part).map_err(|number| format!("{name}: a part is refused with {number}"))?;
+        let (asked, next) = (&content.asked, first.wrapping_add(media.len() as u16));
+        if (asked.l as usize, asked.d as usize, asked.p as usize, asked.base) != (l, d, p, next) {
+            return Err(format!("{name}: a part has another set-up"));
+        }
+        for (port, datagram) in content.entries() {
             if port == 1 {
-                let number = number(&datagram[2..4]);
-                if number != (usize::from(first) + media.len()) % 65_536 {
+                let number = u16::from_be_bytes([datagram[2], datagram[3]]);
+                if number != first.wrapping_add(media.len() as u16) {
                     return Err(format!("{name}: media packet {} has number {number}", media.len()));
                 }
-                media.push(datagram.clone());
+                media.push(datagram.to_vec());
             }
-            entries.push((port, datagram));
+            entries.push((port, datagram.to_vec()));
         }
     }
     Ok(Capture { name, l, d, p, first, entries, media })
-}
-
-fn number(bytes: &[u8]) -> usize {
-    bytes.iter().fold(0, |number, &byte| number * 256 + usize::from(byte))
-}
-
-/// The entries of a capture file (document 02, request 2) whose header has this L, D, P and base.
-fn parse(file: &[u8], header: [usize; 4]) -> Option<Vec<(u8, Vec<u8>)>> {
-    let head = file.get(..12)?;
-    if [number(&head[2..3]), number(&head[3..4]), number(&head[4..6]), number(&head[6..8])] != header {
-        return None;
-    }
-    let mut entries = Vec::new();
-    let mut end = 12 + 8 * number(&head[..2]);
-    for line in file.get(12..end)?.chunks(8) {
-        let (port, length, start) = (line[0], number(&line[2..4]), number(&line[4..8]));
-        if !(1..=3).contains(&port) || line[1] != 0 || length > 1500 || start != end {
-            return None;
-        }
-        entries.push((port, file.get(start..start + length)?.to_vec()));
-        end += length;
-    }
-    (entries.len() <= 512 && end == file.len()).then_some(entries)
 }
 
 /// A parity packet of the capture seen from a window: the positions of its group, which may lie outside.
