@@ -1,29 +1,27 @@
 -- What the calls on capture files promise: one content has one file, each way; what is written is read as it was; any other file is refused.
-use mathlib.Core.Path.{_≡_, refl, sym, ap, ap₂, subst, _∙_}
-use mathlib.Core.Bool.{Bool, true, false, cond, _&&_, _||_}
-use mathlib.Core.Logic.{_↔_}
-use mathlib.Core.List.{List, [], _∷_, _++_, map}
+use mathlib.Core.Path.{_≡_, refl, sym, ap, ap₂, _∙_}
+use mathlib.Core.Bool.{Bool, true, false, cond, _||_}
+use mathlib.Core.List.{List, [], _∷_, _++_, map, append-assoc}
 use Prim.Native.Nat.{ℕ, zero, suc, _+_, _*_, _≤_, _<_}
 use native.Mathlib.Omega.{arith}
-use borrow.Author.Tests.{lt-ltb, le-ltb, le-leb, ltb-true, ltb-false, leb-true}
+use borrow.Author.Tests.{lt-ltb, le-ltb, le-leb, ltb-false, leb-true}
 use lib.Dec.{ltb, leb}
-use lib.ListN.{length, getD, take, drop, length-append, length-drop}
-use lib.Seq.{getD-take, take-at, take-append-seam, drop-append-seam, length-take-le}
+use lib.ListN.{length, getD, take, drop, length-append, length-take}
+use lib.Seq.{getD-take, take-append-seam, drop-append-seam, length-take-le}
 use Rattle.answer.specs.First.{first}
 use Rattle.sequence.specs.Lists.{all, and-split, or-split}
-use Rattle.rtp.specs.Bytes.{byte, be16, be32}
+use Rattle.rtp.specs.Bytes.{byte, be16}
 use Rattle.capture.specs.declared.Reader.{Reader}
 use Rattle.capture.specs.declared.Reading.{Reading}
 use Rattle.capture.specs.declared.Header.{Header}
-use Rattle.capture.specs.declared.Line.{Line}
 use Rattle.capture.specs.Bytes.{Bytes, bytes-take, bytes-drop}
-use Rattle.capture.specs.Content.{Entry, Content, headerSize, lineSize, mostEntries, mostBody, bodies, tableEnd, fileOf, ProperEntry, ProperEntries, Proper}
-use Rattle.capture.specs.Stage.{Stage, head, line, body, refused, run, whole, start, judge, joined, run-append}
+use Rattle.capture.specs.Content.{Entry, Content, headerSize, lineSize, mostEntries, mostBody, bodies, tableEnd, fileOf, ProperEntries, Proper}
+use Rattle.capture.specs.Stage.{Stage, head, line, body, refused, run, start, judge, joined, run-append}
 use Rattle.capture.specs.Small.{Small, run-small}
-use Rattle.capture.specs.Reads.{countAt, portAt, sizeAt, startAt, entryAt, entriesFrom, contentOf, placeOf, Row}
-use Rattle.capture.specs.Calls.{mostBodies, mostFile, readerOf, stageOf, numberAt, readOn, noHeader, headerRead, entryRead, Parts, entriesOf, contentOfParts, total, goodPort, shortBody, numbersFit, entriesFit, partsFit, writeTests, wrote}
-use Rattle.capture.specs.Parts.{Fit, fit, fit-back, total-small}
-use Rattle.capture.specs.Theorem.{judged, content-of, one-file, refused-else, row-of, entry-read, length-file}
+use Rattle.capture.specs.Reads.{countAt, entriesFrom, contentOf, read-back}
+use Rattle.capture.specs.Calls.{mostBodies, mostFile, readerOf, stageOf, numberAt, readOn, noHeader, headerRead, entryRead, Parts, entriesOf, contentOfParts, total, goodPort, shortBody, numbersFit, entriesFit, partsFit, wrote}
+use Rattle.capture.specs.Parts.{fit, fit-back, fields, entries-length}
+use Rattle.capture.specs.Theorem.{judged, content-of, refused-else, row-of, entry-read, length-file}
 
 -- ---- reading
 
@@ -72,7 +70,7 @@ read-pieces [] before = ap (readOn fresh) (sym (append-nil before)) where
 read-pieces (a ∷ more) before =
     ap (λ (q : Reading). readPieces q more) (led before a)
     ∙ read-pieces more (before ++ a)
-    ∙ ap (readOn fresh) (mathlib.Core.List.append-assoc before a (joined more))
+    ∙ ap (readOn fresh) (append-assoc before a (joined more))
 
 -- ---- one content has one file
 
@@ -91,7 +89,7 @@ read-is-file file b e = content-of file b (judge-true file e)
 pub file-is-read : (c : Content) → Proper c → (readOn fresh (fileOf c) .number ≡ 0) × (contentOf (fileOf c) ≡ c)
 file-is-read c h =
     let j = judged (fileOf c) .1 (c, h, refl) in
-    (read-whole (fileOf c) ∙ ap (λ (t : Bool). cond t 0 21) (j .1), Rattle.capture.specs.Reads.read-back c h)
+    (read-whole (fileOf c) ∙ ap (λ (t : Bool). cond t 0 21) (j .1), read-back c h)
 
 -- every other file is refused with 21
 pub else-21 : (file : List ℕ) → Bytes file → ((c : Content) → Proper c → file ≡ fileOf c → ⊥) → readOn fresh file .number ≡ 21
@@ -163,7 +161,7 @@ each-proper (port ∷ ports) (size ∷ lengths) bytes p s b =
       record {
         from = leb-true 1 port (hq .0);
         to = leb-true port 3 (hq .1);
-        short = omega (arith, lib.ListN.length-take size bytes, leb-true size mostBody (hs .0));
+        short = omega (arith, length-take size bytes, leb-true size mostBody (hs .0));
         bytes = bytes-take size bytes b;
       },
       each-proper ports lengths (drop size bytes) (hp .1) (hs .1) (bytes-drop size bytes b),
@@ -174,24 +172,15 @@ pub fits-proper : (x : Parts) → Bytes (x .bodies) → partsFit x ≡ true → 
 fits-proper x b e =
     let s = and-split (entriesFit (x .ports) (x .lengths) (length (x .bodies))) (numbersFit (x .l) (x .d) (x .p) (x .base) (x .n) (x .k)) e in
     let f = fit (x .ports) (x .lengths) (length (x .bodies)) (s .0) in
-    let la = ltb (x .l) 256 in
-    let lb = ltb (x .d) 256 in
-    let lc = ltb (x .p) 65536 in
-    let ld = ltb (x .base) 65536 in
-    let le = ltb (x .n) 65536 in
-    let n0 = and-split (la && lb && lc && ld && le) (ltb (x .k) 65536) (s .1) in
-    let n1 = and-split (la && lb && lc && ld) le (n0 .0) in
-    let n2 = and-split (la && lb && lc) ld (n1 .0) in
-    let n3 = and-split (la && lb) lc (n2 .0) in
-    let n4 = and-split la lb (n3 .0) in
+    let g = fields (x .l) (x .d) (x .p) (x .base) (x .n) (x .k) (s .1) in
     record {
-      few = omega (arith, f .few, Rattle.capture.specs.Parts.entries-length (x .ports) (x .lengths) (x .bodies) (f .same));
-      l-fits = ltb-true (x .l) 256 (n4 .0);
-      d-fits = ltb-true (x .d) 256 (n4 .1);
-      p-fits = ltb-true (x .p) 65536 (n3 .1);
-      base-fits = ltb-true (x .base) 65536 (n2 .1);
-      n-fits = ltb-true (x .n) 65536 (n1 .1);
-      k-fits = ltb-true (x .k) 65536 (n0 .1);
+      few = omega (arith, f .few, entries-length (x .ports) (x .lengths) (x .bodies) (f .same));
+      l-fits = g .l-fits;
+      d-fits = g .d-fits;
+      p-fits = g .p-fits;
+      base-fits = g .base-fits;
+      n-fits = g .n-fits;
+      k-fits = g .k-fits;
       each = each-proper (x .ports) (x .lengths) (x .bodies) (f .ports-good) (f .lengths-good) b;
     }
 

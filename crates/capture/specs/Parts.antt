@@ -1,17 +1,16 @@
 -- The file of lent parts, and the parts of a content.
-use mathlib.Core.Path.{_≡_, refl, sym, ap, ap₂, subst, _∙_}
-use mathlib.Core.Bool.{Bool, true, false, _&&_}
-use mathlib.Core.List.{List, [], _∷_, _++_, append-assoc}
+use mathlib.Core.Path.{_≡_, refl, ap, ap₂, _∙_}
+use mathlib.Core.Bool.{true, _&&_}
+use mathlib.Core.List.{List, [], _∷_, _++_}
 use Prim.Native.Nat.{ℕ, suc, _+_, _*_, _≤_, _<_}
 use native.Mathlib.Omega.{arith}
-use borrow.Author.Tests.{lt-ltb, ltb-true, le-leb, leb-true, eq-eqb, eqb-true}
+use borrow.Author.Tests.{ltb-true, le-leb, leb-true, eq-eqb, eqb-true}
 use lib.Dec.{eqb, ltb, leb}
-use lib.ListN.{length, take, drop, length-append, length-drop, length-take, take-append-drop}
-use lib.Seq.{take-length, length-take-le, take-at, drop-at, take-append-seam, drop-append-seam}
+use lib.ListN.{length, take, drop, length-append, length-drop, take-append-drop}
+use lib.Seq.{length-take-le}
 use Rattle.sequence.specs.Lists.{all, and-split}
-use Rattle.capture.specs.Bytes.{Bytes, bytes-take, bytes-drop}
-use Rattle.capture.specs.Content.{Entry, Content, mostEntries, mostBody, header, lineOf, table, bodies, tableEnd, fileOf, ProperEntry, ProperEntries, Proper}
-use Rattle.capture.specs.Calls.{Parts, entriesOf, contentOfParts, total, goodPort, shortBody, numbersFit, entriesFit, partsFit, lines}
+use Rattle.capture.specs.Content.{mostEntries, mostBody, header, lineOf, table, bodies, tableEnd, fileOf}
+use Rattle.capture.specs.Calls.{Parts, entriesOf, contentOfParts, total, goodPort, shortBody, numbersFit, entriesFit, lines}
 
 -- ---- the entries of lent lists
 pub entries-length : (ports lengths bytes : List ℕ) → length ports ≡ length lengths → length (entriesOf ports lengths bytes) ≡ length ports
@@ -72,6 +71,36 @@ fit ports lengths bytes e =
 pub fit-back : (ports lengths : List ℕ) (bytes : ℕ) → Fit ports lengths bytes → entriesFit ports lengths bytes ≡ true
 fit-back ports lengths bytes f =
     rw (eq-eqb (length ports) (length lengths) (f .same), le-leb (length ports) mostEntries (f .few), f .ports-good, f .lengths-good) (eq-eqb (total lengths) bytes (f .adds-up))
+
+-- what is known of numbers that fit their fields
+pub record Fields (l d p base n k : ℕ) : Type 0 where
+  pub l-fits : l < 256
+  pub d-fits : d < 256
+  pub p-fits : p < 65536
+  pub base-fits : base < 65536
+  pub n-fits : n < 65536
+  pub k-fits : k < 65536
+
+pub fields : (l d p base n k : ℕ) → numbersFit l d p base n k ≡ true → Fields l d p base n k
+fields l d p base n k e =
+    let a = ltb l 256 in
+    let b = ltb d 256 in
+    let c = ltb p 65536 in
+    let f = ltb base 65536 in
+    let g = ltb n 65536 in
+    let s0 = and-split (a && b && c && f && g) (ltb k 65536) e in
+    let s1 = and-split (a && b && c && f) g (s0 .0) in
+    let s2 = and-split (a && b && c) f (s1 .0) in
+    let s3 = and-split (a && b) c (s2 .0) in
+    let s4 = and-split a b (s3 .0) in
+    record {
+      l-fits = ltb-true l 256 (s4 .0);
+      d-fits = ltb-true d 256 (s4 .1);
+      p-fits = ltb-true p 65536 (s3 .1);
+      base-fits = ltb-true base 65536 (s2 .1);
+      n-fits = ltb-true n 65536 (s1 .1);
+      k-fits = ltb-true k 65536 (s0 .1);
+    }
 
 -- short bodies are not many bytes
 pub total-small : (lengths : List ℕ) → all shortBody lengths ≡ true → total lengths ≤ mostBody * length lengths

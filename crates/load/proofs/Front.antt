@@ -1,16 +1,14 @@
 -- What the front of a file says, one way through the definitions at a time. Assumes nothing.
-use mathlib.Core.Path.{_≡_, refl, sym, ap, ap₂, subst, _∙_}
-use mathlib.Core.Bool.{Bool, true, false, cond, _&&_, _||_}
+use mathlib.Core.Path.{_≡_, sym, subst}
 use mathlib.Core.List.{List}
-use Prim.Native.Nat.{ℕ, _+_, _*_, _≤_, _<_}
+use Prim.Native.Nat.{ℕ, _+_, _≤_, _<_}
 use native.Mathlib.Omega.{arith}
 use borrow.Author.Tests.{lt-ltb, le-ltb, le-leb, lt-leb}
-use lib.Dec.{ltb, leb}
 use lib.ListN.{length}
 use Rattle.rtp.specs.Bytes.{byte, be16, be32}
 use Rattle.capture.specs.declared.Header.{Header}
 use Rattle.capture.specs.declared.Line.{Line}
-use Rattle.capture.specs.Content.{headerSize, lineSize, mostEntries, tableEnd}
+use Rattle.capture.specs.Content.{headerSize, mostEntries, tableEnd}
 use Rattle.capture.specs.Reads.{countAt, portAt, sizeAt, startAt}
 use Rattle.capture.specs.Calls.{noHeader, headerRead, noEntry, entryRead}
 

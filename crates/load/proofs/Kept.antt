@@ -1,9 +1,8 @@
 -- A card's numbers and the stage that they stand for, one way through the definitions at a time. Assumes nothing.
-use mathlib.Core.Path.{_≡_, refl, sym, ap, _∙_}
-use mathlib.Core.Bool.{Bool, true, false, cond, _&&_}
+use mathlib.Core.Path.{_≡_, sym, ap, _∙_}
+use mathlib.Core.Bool.{true, false, _&&_}
 use mathlib.Core.List.{List}
 use Prim.Native.Nat.{ℕ, _+_, _*_, _≤_, _<_}
-use native.Mathlib.Omega.{arith}
 use borrow.Author.Tests.{ltb-true, leb-true, le-leb, lt-leb, eq-eqb, ne-eqb}
 use lib.Dec.{ltb, leb}
 use Rattle.sequence.specs.Lists.{and-split}

@@ -9,7 +9,7 @@ ghost use mathlib.Core.Path.{_≡_};
 ghost use Prim.Native.Nat.{_+_, _≤_, _<_};
 ghost use Rattle.rtp.specs.Bytes.{byte, be16, be32};
 ghost use Rattle.capture.specs.declared.Stage.the-variants.{Head as head, Line as line, Body as body};
-ghost use Rattle.capture.specs.Stage.{enter, startByte, goodByte, sizeAfter, countAfter, less, feed, run, counts, skipped};
+ghost use Rattle.capture.specs.Stage.{enter, startByte, goodByte, sizeAfter, countAfter, feed, run, counts, skipped};
 ghost use Rattle.capture.specs.Small.{Small, SmallHead, SmallLine};
 ghost use Rattle.capture.specs.Calls.{mostBodies, mostFile, headGood, lineGood, headFrom, lineFrom, bodyFrom, stageOf, readerOf, numberAt, readOn, noHeader, headerRead, noEntry, entryRead};
 

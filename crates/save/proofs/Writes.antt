@@ -1,49 +1,18 @@
 -- Writing a file, one way through the definition at a time. Assumes nothing.
-use mathlib.Core.Path.{_≡_, refl, sym, ap, ap₂, _∙_}
-use mathlib.Core.Bool.{Bool, true, false, not, _&&_}
-use mathlib.Core.List.{List, [], _∷_, _++_}
-use Prim.Native.Nat.{ℕ, _+_, _*_, _≤_, _<_}
+use mathlib.Core.Path.{_≡_, sym, ap, _∙_}
+use mathlib.Core.Bool.{true, false}
+use mathlib.Core.List.{List, _++_}
+use Prim.Native.Nat.{ℕ, _+_, _≤_, _<_}
 use native.Mathlib.Omega.{arith}
-use borrow.Author.Tests.{lt-ltb, le-ltb, ltb-true}
-use lib.Dec.{ltb}
+use borrow.Author.Tests.{lt-ltb, le-ltb}
 use lib.ListN.{length, take, drop}
 use lib.Seq.{sets, paste, take-length}
 use Rattle.answer.specs.First.{first}
-use Rattle.sequence.specs.Lists.{and-split}
 use Rattle.xor.specs.Laid.{laid}
-use Rattle.capture.specs.declared.Written.{Written}
-use Rattle.capture.specs.Content.{mostEntries, mostBody, header, tableEnd, fileOf}
+use Rattle.capture.specs.Content.{mostEntries, header, tableEnd, fileOf}
 use Rattle.capture.specs.Calls.{Parts, contentOfParts, entriesFit, numbersFit, lines, Filed, wrote}
-use Rattle.capture.specs.Parts.{Fit, fit, frontOf, length-front, file-of-parts, length-of-parts, total-small}
+use Rattle.capture.specs.Parts.{fit, frontOf, length-front, file-of-parts, length-of-parts, total-small}
 use Rattle.save.proofs.Lay.{sets-append}
-
--- the numbers fit, each
-pub record Numbers (l d p base n k : ℕ) : Type 0 where
-  pub l-fits : l < 256
-  pub d-fits : d < 256
-  pub p-fits : p < 65536
-  pub n-fits : n < 65536
-  pub k-fits : k < 65536
-
-pub each-fits : (l d p base n k : ℕ) → numbersFit l d p base n k ≡ true → Numbers l d p base n k
-each-fits l d p base n k e =
-    let a = ltb l 256 in
-    let b = ltb d 256 in
-    let c = ltb p 65536 in
-    let f = ltb base 65536 in
-    let g = ltb n 65536 in
-    let s0 = and-split (a && b && c && f && g) (ltb k 65536) e in
-    let s1 = and-split (a && b && c && f) g (s0 .0) in
-    let s2 = and-split (a && b && c) f (s1 .0) in
-    let s3 = and-split (a && b) c (s2 .0) in
-    let s4 = and-split a b (s3 .0) in
-    record {
-      l-fits = ltb-true l 256 (s4 .0);
-      d-fits = ltb-true d 256 (s4 .1);
-      p-fits = ltb-true p 65536 (s3 .1);
-      n-fits = ltb-true n 65536 (s1 .1);
-      k-fits = ltb-true k 65536 (s0 .1);
-    }
 
 -- the need of a file is small
 pub small-need : (ports lengths : List ℕ) (bytes : ℕ) → entriesFit ports lengths bytes ≡ true → (length ports ≤ mostEntries) × (bytes ≤ 768000)

@@ -1,6 +1,5 @@
 -- `load::entry_of` meets its contract.
-use mathlib.Core.Path.{_≡_, sym, ap, ap₂, _∙_}
-use Prim.Native.Nat.{_+_}
+use mathlib.Core.Path.{ap, _∙_}
 use native.Mathlib.Omega.{arith}
 use Rattle.capture.specs.Content.{tableEnd}
 use Rattle.capture.specs.Claims.{few-entries}

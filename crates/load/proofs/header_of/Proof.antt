@@ -1,5 +1,5 @@
 -- `load::header_of` meets its contract.
-use mathlib.Core.Path.{subst, sym, _∙_}
+use mathlib.Core.Path.{subst, _∙_}
 use Prim.Native.Nat.{_<_}
 use Rattle.capture.specs.Content.{mostEntries}
 use Rattle.load.proofs.Front.{header-short, header-many, header-good}

@@ -1,5 +1,5 @@
 -- `load::number_at` meets its contract.
-use mathlib.Core.Path.{_≡_, sym, ap, _∙_}
+use mathlib.Core.Path.{sym, ap, _∙_}
 use borrow.Author.Tests.{ne-eqb}
 use Rattle.capture.specs.Calls.{numberAt}
 use borrow.Author.Needs.{needs}

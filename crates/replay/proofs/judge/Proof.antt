@@ -1,6 +1,4 @@
 -- `replay::judge` meets its contract.
-use Prim.Native.Nat.{_+_, _*_, _≤_}
-use native.Mathlib.Nat.{mul-le-mul}
 use native.Mathlib.Omega.{arith}
 use Rattle.replay.proofs.SetUp.{small, small-product, small-media}
 use borrow.Author.Needs.{needs}

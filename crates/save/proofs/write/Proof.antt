@@ -1,13 +1,12 @@
 -- `save::write` meets its contract.
-use mathlib.Core.Path.{_≡_, refl, sym, ap, _∙_}
-use mathlib.Core.Bool.{true, false}
+use mathlib.Core.Path.{sym, ap, _∙_}
 use native.Mathlib.Omega.{arith}
 use borrow.Author.Tests.{not-true, not-false}
 use Prim.Native.Nat.{ℕ}
 use lib.ListN.{length}
-use Rattle.capture.specs.Calls.{Parts, entriesFit, numbersFit}
-use Rattle.capture.specs.Parts.{fit}
-use Rattle.save.proofs.Writes.{each-fits, small-need, not-entries, not-numbers, too-short, was-written}
+use Rattle.capture.specs.Calls.{Parts, numbersFit}
+use Rattle.capture.specs.Parts.{fit, fields}
+use Rattle.save.proofs.Writes.{small-need, not-entries, not-numbers, too-short, was-written}
 use borrow.Author.Needs.{needs}
 use Rattle.save.proofs.write.Statement.{statement}
 use Rattle.save.proofs.write.Tie as tie
@@ -65,19 +64,19 @@ returns-3 c =
     (c .before .if3 .taken))
 
 cast-put-file : tie.Need-cast-put-file
-cast-put-file c = let a = c .before .before .before .before .before .before .before .before .before .before .args in omega (arith, each-fits (a .l) (a .d) (a .p) (c .before .before .before .wide .result) (a .n) (a .k) (sym (c .before .before .numbers-fit .ensures) ∙ not-false _ (c .before .if2 .left)) .l-fits)
+cast-put-file c = let a = c .before .before .before .before .before .before .before .before .before .before .args in omega (arith, fields (a .l) (a .d) (a .p) (c .before .before .before .wide .result) (a .n) (a .k) (sym (c .before .before .numbers-fit .ensures) ∙ not-false _ (c .before .if2 .left)) .l-fits)
 
 cast-put-file-2 : tie.Need-cast-put-file-2
-cast-put-file-2 c = let a = c .before .before .before .before .before .before .before .before .before .before .args in omega (arith, each-fits (a .l) (a .d) (a .p) (c .before .before .before .wide .result) (a .n) (a .k) (sym (c .before .before .numbers-fit .ensures) ∙ not-false _ (c .before .if2 .left)) .d-fits)
+cast-put-file-2 c = let a = c .before .before .before .before .before .before .before .before .before .before .args in omega (arith, fields (a .l) (a .d) (a .p) (c .before .before .before .wide .result) (a .n) (a .k) (sym (c .before .before .numbers-fit .ensures) ∙ not-false _ (c .before .if2 .left)) .d-fits)
 
 cast-put-file-3 : tie.Need-cast-put-file-3
-cast-put-file-3 c = let a = c .before .before .before .before .before .before .before .before .before .before .args in omega (arith, each-fits (a .l) (a .d) (a .p) (c .before .before .before .wide .result) (a .n) (a .k) (sym (c .before .before .numbers-fit .ensures) ∙ not-false _ (c .before .if2 .left)) .p-fits)
+cast-put-file-3 c = let a = c .before .before .before .before .before .before .before .before .before .before .args in omega (arith, fields (a .l) (a .d) (a .p) (c .before .before .before .wide .result) (a .n) (a .k) (sym (c .before .before .numbers-fit .ensures) ∙ not-false _ (c .before .if2 .left)) .p-fits)
 
 cast-put-file-4 : tie.Need-cast-put-file-4
-cast-put-file-4 c = let a = c .before .before .before .before .before .before .before .before .before .before .args in omega (arith, each-fits (a .l) (a .d) (a .p) (c .before .before .before .wide .result) (a .n) (a .k) (sym (c .before .before .numbers-fit .ensures) ∙ not-false _ (c .before .if2 .left)) .n-fits)
+cast-put-file-4 c = let a = c .before .before .before .before .before .before .before .before .before .before .args in omega (arith, fields (a .l) (a .d) (a .p) (c .before .before .before .wide .result) (a .n) (a .k) (sym (c .before .before .numbers-fit .ensures) ∙ not-false _ (c .before .if2 .left)) .n-fits)
 
 cast-put-file-5 : tie.Need-cast-put-file-5
-cast-put-file-5 c = let a = c .before .before .before .before .before .before .before .before .before .before .args in omega (arith, each-fits (a .l) (a .d) (a .p) (c .before .before .before .wide .result) (a .n) (a .k) (sym (c .before .before .numbers-fit .ensures) ∙ not-false _ (c .before .if2 .left)) .k-fits)
+cast-put-file-5 c = let a = c .before .before .before .before .before .before .before .before .before .before .args in omega (arith, fields (a .l) (a .d) (a .p) (c .before .before .before .wide .result) (a .n) (a .k) (sym (c .before .before .numbers-fit .ensures) ∙ not-false _ (c .before .if2 .left)) .k-fits)
 
 put-file-requires : tie.Need-put-file-requires
 put-file-requires c κs =
