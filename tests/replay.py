@@ -1,11 +1,11 @@
 #!/usr/bin/env python3
 """Files of every kind through the program replay, and what it printed of each.
 
-    tests/replay.py PROGRAM CAPTURE ..      the transcript, which tools/replay holds to tests/replay.stdout
+    tests/replay.py PROGRAM FAILING CAPTURE ..      the transcript, which tools/replay holds to tests/replay.stdout
 
-The files are put together here by request 2 of document 02 alone, in a folder that is removed again. Of each capture the answers are
-counted, and the last line is shown."""
-import collections, itertools, os, subprocess, sys, tempfile
+The files are put together here by request 2 of document 02 alone, in a folder that is removed again. FAILING is tests/failing_read.c as
+a shared library: with it each read of a file fails in turn. Of each capture the answers are counted, and the last line is shown."""
+import collections, itertools, os, subprocess, sys, tempfile, time
 
 EXAMPLE = bytes.fromhex("0001 0404 00BC FFFA 0010 0008 0100 0002 0000 0014 ABCD")
 
@@ -111,6 +111,26 @@ def show(what, text):
         print(f"{many} x {line}" if many > 2 else line * many, end="")
 
 
+def piped(program, data):
+    """What is printed of a file that comes in through a pipe, in pieces that end anywhere."""
+    with subprocess.Popen([program, "/dev/stdin"], stdin=subprocess.PIPE, stdout=subprocess.PIPE) as run:
+        for at in range(0, len(data), 97):
+            run.stdin.write(data[at : at + 97])
+            run.stdin.flush()
+            time.sleep(0.001)
+        return run.communicate(timeout=60)[0]
+
+
+def failing(program, library, name):
+    """What is printed where one read of a file fails and those after it do not, for each of its reads."""
+    text = b""
+    for turn in itertools.count(1):
+        said = subprocess.run([program, name], capture_output=True, timeout=60, env={"LD_PRELOAD": library, "FAILING_READ": str(turn)})
+        if said.returncode == 9:
+            return text
+        text += said.stdout
+
+
 def count(capture, text):
     """A capture: how often each answer was given, how many packets were rebuilt, and the last line."""
     *lines, last = text.decode().splitlines()
@@ -120,7 +140,7 @@ def count(capture, text):
 
 
 def main():
-    program = os.path.abspath(sys.argv[1])
+    program, library = map(os.path.abspath, sys.argv[1:3])
     with tempfile.TemporaryDirectory() as folder:
         name = os.path.join(folder, "file.cap")
         for what, data in cases():
@@ -130,10 +150,14 @@ def main():
             show(what, said.stdout)
             if said.returncode or said.stderr:
                 sys.exit(f"replay of {what!r} ended with {said.returncode}: {said.stderr.decode()}")
-        for what, words in (("no such file", [os.path.join(folder, "none")]), ("a folder", [folder]), ("no argument", []), ("a path that is too long", ["x" * 5000])):
+        for what, words in (("no such file", [os.path.join(folder, "none")]), ("a folder", [folder]), ("no argument", []), ("a path that is too long", ["x" * 5000]), ("a file without end", ["/dev/zero"])):
             said = subprocess.run([program, *words], capture_output=True, timeout=60)
             show(what, said.stdout)
-    for capture in sys.argv[2:]:
+        with open(name, "wb") as out:
+            out.write(file(traffic()))
+        show("traffic with losses, each read of it failing in turn", failing(program, library, name))
+    show("traffic with losses, through a pipe", piped(program, file(traffic())))
+    for capture in sys.argv[3:]:
         count(capture, subprocess.run([program, capture], capture_output=True, timeout=60).stdout)
 
 

@@ -27,6 +27,28 @@ pub fn begin() -> Reader {
     }
 }
 
+// A reading that nothing mends.
+fn broken() -> Reading {
+    let reader = Reader {
+        stage: 3,
+        left: 0,
+        next: 0,
+        sum: 0,
+        at: 0,
+        size: 0,
+    };
+    Reading { number: 21, reader }
+}
+
+// Reads on: a piece of which so many bytes were due. Where fewer came the file ended or a read failed, and what comes after them is not
+// to be taken for their rest.
+pub fn read_due(reader: Reader, piece: &[u8], due: usize) -> Reading {
+    if piece.len() < due {
+        return broken();
+    }
+    load::read(reader, piece)
+}
+
 // The smaller of two numbers.
 pub fn least(a: usize, b: usize) -> usize
     ensures { λ r. ⌜ (r ≤ a) × (r ≤ b) ⌝ }
@@ -62,12 +84,16 @@ pub fn fill(fd: i32, buf: &mut [u8], from: usize, to: usize) -> usize
 }
 
 // Reads the rest of the file, which may be nothing, and answers 0 where all of it is a capture file, else 21. Each read brings a byte
-// or is the last one, and a file is refused after 772,108 bytes at the latest.
+// or is the last one, and a file is refused, and not read on, after 772,108 bytes at the latest.
 pub fn rest(fd: i32, before: Reading) -> u32 {
     let mut piece = [0u8; 1500];
     let mut r = before;
     let mut turns: u32 = 1000000;
     while 0 < turns {
+        let reader = r.reader;
+        if reader.stage == 3 {
+            return 21;
+        }
         let got = libc::read(fd, &mut piece);
         if got < 0 {
             return 21;
@@ -76,7 +102,6 @@ pub fn rest(fd: i32, before: Reading) -> u32 {
             return r.number;
         }
         let n = io::count(got, &piece);
-        let reader = r.reader;
         let next = load::read(reader, &piece[..n]);
         r = next;
         turns -= 1;

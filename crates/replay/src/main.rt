@@ -71,8 +71,9 @@ fn replay(fd: i32) {
         text::say_number(21);
         return;
     }
-    let end = input::fill(fd, &mut front, 12, 12 + 8 * h.count);
-    let reading = load::read(input::begin(), &front[..end]);
+    let due = 12 + 8 * h.count;
+    let end = input::fill(fd, &mut front, 12, due);
+    let reading = input::read_due(input::begin(), &front[..end], due);
     judge(fd, &front, h, reading);
 }
 

@@ -98,7 +98,7 @@ fn offer_entry(
     let e = load::entry_of(front, i);
     let got = crate::input::fill(fd, &mut body, 0, e.length);
     let before = s.reading;
-    let reading = load::read(before.reader, &body[..got]);
+    let reading = crate::input::read_due(before.reader, &body[..got], e.length);
     let w = s.receiver;
     let step = hand_in(
         w,

@@ -23,14 +23,14 @@ say-number-requires c κs = search needs
 returns : tie.Need-returns
 returns c = search needs
 
+mul-due : tie.Need-mul-due
+mul-due c = omega (arith, few _ _ (c .before .before .before .header-of .ensures))
+
+add-due : tie.Need-add-due
+add-due c = omega (arith, few _ _ (c .before .before .before .header-of .ensures))
+
 slice-aggregate-fill-2 : tie.Need-slice-aggregate-fill-2
 slice-aggregate-fill-2 c = search needs
-
-mul-fill : tie.Need-mul-fill
-mul-fill c = let h = few _ _ (c .before .before .before .before .header-of .ensures) in omega (arith, h)
-
-add-fill : tie.Need-add-fill
-add-fill c = let h = few _ _ (c .before .before .before .before .header-of .ensures) in omega (arith, h)
 
 fill-requires-2 : tie.Need-fill-requires-2
 fill-requires-2 c κs = search needs
@@ -41,11 +41,11 @@ begin-requires c κs = search needs
 array-share-prefix-front : tie.Need-array-share-prefix-front
 array-share-prefix-front c = search needs
 
-slice-aggregate-read : tie.Need-slice-aggregate-read
-slice-aggregate-read c = search needs
+slice-aggregate-read-due : tie.Need-slice-aggregate-read-due
+slice-aggregate-read-due c = search needs
 
-read-requires : tie.Need-read-requires
-read-requires c κs = search needs
+read-due-requires : tie.Need-read-due-requires
+read-due-requires c κs = search needs
 
 slice-aggregate-judge : tie.Need-slice-aggregate-judge
 slice-aggregate-judge c = search needs
@@ -57,4 +57,4 @@ returns-2 : tie.Need-returns-2
 returns-2 c = search needs
 
 pub replay-spec : {M : Type 1} → statement M
-replay-spec = tie.close (tie.spec slice-aggregate-fill fill-requires slice-aggregate-header-of header-of-requires say-number-requires returns slice-aggregate-fill-2 mul-fill add-fill fill-requires-2 begin-requires array-share-prefix-front slice-aggregate-read read-requires slice-aggregate-judge judge-requires returns-2)
+replay-spec = tie.close (tie.spec slice-aggregate-fill fill-requires slice-aggregate-header-of header-of-requires say-number-requires returns mul-due add-due slice-aggregate-fill-2 fill-requires-2 begin-requires array-share-prefix-front slice-aggregate-read-due read-due-requires slice-aggregate-judge judge-requires returns-2)
