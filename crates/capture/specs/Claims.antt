@@ -47,10 +47,6 @@ abbrev pub readPieces : Reading → List (List ℕ) → Reading
 readPieces q [] = q
 readPieces q (a ∷ more) = readPieces (readOn (q .reader) a) more
 
--- a reader that stands where some bytes have led
-abbrev Led : Reading → List ℕ → Type 0
-Led q before = q ≡ readOn fresh before
-
 small-start : Small start
 small-start = record { at-small = omega arith; count-small = omega arith }
 
@@ -98,6 +94,10 @@ else-21 file b none = read-whole file ∙ ap (λ (t : Bool). cond t 0 21) (refus
 -- two different files never give one content
 pub one-content-one-file : (f g : List ℕ) → Bytes f → Bytes g → readOn fresh f .number ≡ 0 → readOn fresh g .number ≡ 0 → contentOf f ≡ contentOf g → f ≡ g
 one-content-one-file f g bf bg ef eg q = read-is-file f bf ef .1 ∙ ap fileOf q ∙ sym (read-is-file g bg eg .1)
+
+-- and two different contents never have one file
+pub one-file-one-content : (c d : Content) → Proper c → Proper d → fileOf c ≡ fileOf d → c ≡ d
+one-file-one-content c d h k q = sym (read-back c h) ∙ ap contentOf q ∙ read-back d k
 
 -- ---- writing
 

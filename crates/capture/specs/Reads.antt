@@ -6,27 +6,34 @@ use Prim.Native.Nat.{ℕ, zero, suc, _+_, _*_, _/_, _%_, _≤_, _<_}
 use native.Mathlib.Nat.{eq-or-lt-of-le}
 use native.Mathlib.Omega.{arith}
 use lib.ListN.{length, getD, take, drop, length-append}
-use lib.Seq.{getD-append-add, getD-take, getD-drop, take-at, drop-at}
+use lib.Seq.{getD-append-add, take-at, drop-at}
 use Rattle.rtp.specs.Bytes.{byte, be16, be32}
 use Rattle.capture.specs.Bytes.{be16-bytes16, be32-bytes32}
 use Rattle.capture.specs.Content.{Entry, Content, lineOf, table, bodies, header, tableEnd, fileOf, ProperEntries, Proper}
 
+-- how many entries a file says that it has
 abbrev pub countAt : List ℕ → ℕ
 countAt file = be16 (byte file 0) (byte file 1)
 
 -- ---- line i of the table
+
+-- the port
 abbrev pub portAt : List ℕ → ℕ → ℕ
 portAt file i = byte file (tableEnd i)
 
+-- the length of the body
 abbrev pub sizeAt : List ℕ → ℕ → ℕ
 sizeAt file i = be16 (byte file (tableEnd i + 2)) (byte file (tableEnd i + 3))
 
+-- where the body starts
 abbrev pub startAt : List ℕ → ℕ → ℕ
 startAt file i = be32 (byte file (tableEnd i + 4)) (byte file (tableEnd i + 5)) (byte file (tableEnd i + 6)) (byte file (tableEnd i + 7))
 
+-- the body: as many bytes from there on
 abbrev pub bodyAt : List ℕ → ℕ → List ℕ
 bodyAt file i = take (sizeAt file i) (drop (startAt file i) file)
 
+-- entry i
 abbrev pub entryAt : List ℕ → ℕ → Entry
 entryAt file i = record { port = portAt file i; body = bodyAt file i }
 
@@ -35,6 +42,7 @@ abbrev pub entriesFrom : List ℕ → (i : ℕ) → ℕ → List Entry
 entriesFrom file i zero = []
 entriesFrom file i (suc n) = entryAt file i ∷ entriesFrom file (suc i) n
 
+-- the content of a file: the numbers of its header, and as many entries as it says
 unfoldable pub contentOf : List ℕ → Content
 contentOf file = record {
   l = byte file 2;
@@ -179,16 +187,6 @@ rows file (x ∷ es) i start s e j h k =
       fits = omega (arith, f .size-is, f .fits);
     }
 
-last-place : (file : List ℕ) (es : List Entry) (i start : ℕ) → Standing file es i start → start ≡ placeOf file i → placeOf file (i + length es) ≡ length file
-last-place file [] i start s e =
-    let q : i + 0 ≡ i = omega arith in
-    ap (placeOf file) q ∙ sym e ∙ s .begins
-    ∙ sym (ap length (s .is) ∙ length-append (s .before) (s .between ++ []) ∙ ap (λ (n : ℕ). length (s .before) + n) (length-append (s .between) []) ∙ omega arith)
-last-place file (x ∷ es) i start s e =
-    let q : i + suc (length es) ≡ suc i + length es = omega arith in
-    ap (placeOf file) q
-    ∙ last-place file es (suc i) (start + length (x .body)) (next-line file x es i start s) (ap₂ _+_ e (sym (first-line file x es i start s .size-is)))
-
 -- a proper content's file, at its first line
 standing : (c : Content) → Proper c → Standing (fileOf c) (c .entries) 0 (tableEnd (length (c .entries)))
 unfolding fileOf
@@ -222,22 +220,12 @@ read-back c h =
       entries = entries j;
     }
 
--- each line of a proper content's file, and the end of the last body
+-- each line of a proper content's file
 pub rows-of : (c : Content) → Proper c → (i : ℕ) → i < countAt (fileOf c) → Row (fileOf c) i
 rows-of c h i k = rows (fileOf c) (c .entries) 0 (tableEnd (length (c .entries))) (standing c h) (ap tableEnd (sym (count-read c h))) i (omega arith) (omega (arith, count-read c h))
-
-pub end-of : (c : Content) → Proper c → placeOf (fileOf c) (countAt (fileOf c)) ≡ length (fileOf c)
-end-of c h =
-    let q : countAt (fileOf c) ≡ 0 + length (c .entries) = omega (arith, count-read c h) in
-    ap (placeOf (fileOf c)) q
-    ∙ last-place (fileOf c) (c .entries) 0 (tableEnd (length (c .entries))) (standing c h) (ap tableEnd (sym (count-read c h)))
 
 -- entry i of those read is the entry at line i
 pub entry-of : (file : List ℕ) (n i j : ℕ) (other : Entry) → j < n → getD (entriesFrom file i n) j other ≡ entryAt file (i + j)
 entry-of file zero i j other h = absurd (omega arith)
 entry-of file (suc n) i zero other h = ap (entryAt file) (omega arith)
 entry-of file (suc n) i (suc j) other h = entry-of file n (suc i) j other (omega arith) ∙ ap (entryAt file) (omega arith)
-
--- the same bytes in a buffer that holds the line alone
-pub line-part : (file : List ℕ) (i j : ℕ) → j < 8 → byte (take 8 (drop (tableEnd i) file)) j ≡ byte file (tableEnd i + j)
-line-part file i j h = getD-take 8 (drop (tableEnd i) file) j 0 h ∙ getD-drop (tableEnd i) file j 0

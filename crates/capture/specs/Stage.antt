@@ -82,22 +82,16 @@ unfoldable pub judge : List ℕ → Bool
 judge file = whole (run start file)
 
 -- ---- pieces
+
+-- bytes after bytes
 pub run-append : (r : Stage) (a b : List ℕ) → run r (a ++ b) ≡ run (run r a) b
 run-append r [] b = refl
 run-append r (x ∷ a) b = run-append (feed x r) a b
 
+-- pieces one after the other
 abbrev pub joined : List (List ℕ) → List ℕ
 joined [] = []
 joined (a ∷ more) = a ++ joined more
-
-abbrev pub runs : Stage → List (List ℕ) → Stage
-runs r [] = r
-runs r (a ∷ more) = runs (run r a) more
-
--- piece by piece or at once
-pub run-pieces : (r : Stage) (pieces : List (List ℕ)) → run r (joined pieces) ≡ runs r pieces
-run-pieces r [] = refl
-run-pieces r (a ∷ more) = run-append r a (joined more) ∙ run-pieces (run r a) more
 
 -- a breach is for ever
 pub run-refused : (l : List ℕ) → run refused l ≡ refused

@@ -9,10 +9,10 @@ use lib.ListN.{length, getD, length-append}
 use Rattle.rtp.specs.Bytes.{bytes16, bytes32}
 use Rattle.capture.specs.Bytes.{Bytes, bytes-append, bytes-16, bytes-32}
 use Rattle.capture.specs.Content.{Entry, Content, lineOf, table, bodies, header, tableEnd, fileOf, ProperEntries, Proper}
-use Rattle.capture.specs.Stage.{runs, whole, start, judge, joined, run-pieces}
+use Rattle.capture.specs.Stage.{judge}
 use Rattle.capture.specs.Accepts.{accepted}
 use Rattle.capture.specs.Refuses.{found}
-use Rattle.capture.specs.Reads.{countAt, entryAt, placeOf, contentOf, Row, read-back, rows-of, end-of, entry-of, length-table}
+use Rattle.capture.specs.Reads.{countAt, entryAt, contentOf, Row, read-back, rows-of, entry-of, length-table}
 
 -- ---- a proper content's file is bytes
 bytes-table : (start : ℕ) (es : List Entry) → ProperEntries es → Bytes (table start es)
@@ -57,13 +57,6 @@ content-of file b e =
     let q : f .0 ≡ contentOf file = sym (ap contentOf (f .2) ∙ read-back (f .0) (f .1)) in
     (subst Proper q (f .1), f .2 ∙ ap fileOf q)
 
--- one content has one file, and one file one content
-pub one-file : (f g : List ℕ) → Bytes f → Bytes g → judge f ≡ true → judge g ≡ true → contentOf f ≡ contentOf g → f ≡ g
-one-file f g b c d e q = content-of f b d .1 ∙ ap fileOf q ∙ sym (content-of g c e .1)
-
-pub one-content : (c d : Content) → Proper c → Proper d → fileOf c ≡ fileOf d → c ≡ d
-one-content c d h k e = sym (read-back c h) ∙ ap contentOf e ∙ read-back d k
-
 -- any other file is refused
 pub refused-else : (file : List ℕ) → Bytes file → ((c : Content) → Proper c → file ≡ fileOf c → ⊥) → judge file ≡ false
 refused-else file b none-is = go (judge file) refl where
@@ -71,21 +64,11 @@ refused-else file b none-is = go (judge file) refl where
   go false e = refl
   go true e = absurd (let f = found file b e in none-is (f .0) (f .1) (f .2))
 
--- piece by piece
-pub judge-pieces : (pieces : List (List ℕ)) → judge (joined pieces) ≡ whole (runs start pieces)
-unfolding judge
-judge-pieces pieces = ap whole (run-pieces start pieces)
-
--- ---- what the second pass may count on: lines as the table has them, bodies one after another to the end
+-- ---- the lines of an accepted file, as its table has them
 pub row-of : (file : List ℕ) → Bytes file → judge file ≡ true → (i : ℕ) → i < countAt file → Row file i
 row-of file b e i h =
     let f = found file b e in
     subst (λ (g : List ℕ). Row g i) (sym (f .2)) (rows-of (f .0) (f .1) i (subst (λ (g : List ℕ). i < countAt g) (f .2) h))
-
-pub ends : (file : List ℕ) → Bytes file → judge file ≡ true → placeOf file (countAt file) ≡ length file
-ends file b e =
-    let f = found file b e in
-    subst (λ (g : List ℕ). placeOf g (countAt g) ≡ length g) (sym (f .2)) (end-of (f .0) (f .1))
 
 -- entry i, by its line
 pub entry-read : (file : List ℕ) (i : ℕ) (other : Entry) → i < countAt file → getD (contentOf file .entries) i other ≡ entryAt file i
