@@ -3,7 +3,8 @@
 //!
 //! `second` runs a fixed seeded set, `second --seed S` takes one seed again, `second --seconds N [--seed S]` is the long run, which
 //! takes the seeds from S onward. `second --replay PROGRAM [--seed S]` runs the program that replays a capture file, on files of
-//! the seeds from S onward. A difference is printed with its seed, and the exit status is then 1.
+//! the seeds from S onward, `second --replay PROGRAM FILE ..` on files that are there. A difference is printed with its seed or
+//! file, and the exit status is then 1.
 
 mod capture;
 mod captures;
@@ -189,12 +190,17 @@ struct Arguments {
     seconds: Option<u64>,
     seed: Option<u64>,
     program: Option<OsString>,
+    files: Vec<OsString>,
 }
 
 fn arguments() -> Option<Arguments> {
     let mut found = Arguments::default();
     let mut rest = std::env::args_os().skip(1);
     while let Some(name) = rest.next() {
+        if found.program.is_some() && !name.to_string_lossy().starts_with("--") {
+            found.files.push(name);
+            continue;
+        }
         let value = rest.next()?;
         let number = || value.to_str()?.parse().ok();
         match name.to_str()? {
@@ -208,15 +214,16 @@ fn arguments() -> Option<Arguments> {
 }
 
 fn main() -> ExitCode {
-    let Arguments { seconds, seed, program } = match arguments() {
+    let Arguments { seconds, seed, program, files } = match arguments() {
         Some(found) if found.seconds.is_none() || found.program.is_none() => found,
         _ => {
-            eprintln!("use: second [--seconds N] [--seed S], second --replay PROGRAM [--seed S]");
+            eprintln!("use: second [--seconds N] [--seed S], second --replay PROGRAM [--seed S], second --replay PROGRAM FILE ..");
             return ExitCode::from(2);
         }
     };
     let result = match program {
-        Some(program) => replays::run(&program, seed.unwrap_or(1)),
+        Some(program) if files.is_empty() => replays::run(&program, seed.unwrap_or(1)),
+        Some(program) => replays::run_files(&program, &files),
         None => Run::new().and_then(|mut run| match (seconds, seed) {
             (None, None) => run.fixed(),
             (None, Some(seed)) => run.again(seed),

@@ -6,7 +6,7 @@ use crate::model::Window;
 use crate::rng::Rng;
 use crate::traffic::{alter, offers, profiles, sizes};
 use crate::wire::Stretch;
-use std::ffi::OsStr;
+use std::ffi::{OsStr, OsString};
 use std::path::Path;
 use std::process::Command;
 use std::{env, fs, process};
@@ -225,6 +225,19 @@ pub fn run(program: &OsStr, first: u64) -> Result<(), String> {
     } else {
         Err(format!("something was met fewer than {LEAST} times"))
     }
+}
+
+/// Replays files that are there.
+pub fn run_files(program: &OsStr, files: &[OsString]) -> Result<(), String> {
+    let mut tally = Tally::default();
+    for path in files.iter().map(Path::new) {
+        let file = fs::read(path).map_err(|fault| format!("{}: {fault}", path.display()))?;
+        let text = capture::replay(&file);
+        compare(program, path, &text)?;
+        tally.count(&file, &text);
+    }
+    tally.print();
+    Ok(())
 }
 
 fn replay_all(program: &OsStr, first: u64, folder: &Path) -> Result<Tally, String> {
