@@ -3,6 +3,7 @@
 mod plain;
 mod traffic;
 
+use congaveil::capture::{self, Capture, Port, ENTRIES_MAX, FRONT_MAX};
 use congaveil::{Outer, Receiver, Refusal, SetUp, Taken, PARITY_HEADER};
 use plain::Aligned;
 use std::{hint::black_box, time::Instant};
@@ -184,6 +185,19 @@ fn refuses(n: usize, k: usize) -> f64 {
     ) / 100.0
 }
 
+/// The largest number of entries of one length: writing their file, judging it, and a memcpy of the bodies.
+fn captures(length: usize) -> (f64, f64, f64) {
+    let set_up = SetUp { base: 65_500, l: 10, d: 10, payload: 1316, positions: 100, records: 40, ssrc: 0 };
+    let (ports, lengths) = ([Port::Media; ENTRIES_MAX], [length as u16; ENTRIES_MAX]);
+    let bodies: Vec<u8> = (0..ENTRIES_MAX * length).map(|i| i as u8).collect();
+    let mut file = vec![0; FRONT_MAX + bodies.len()];
+    let mut copy = bodies.clone();
+    let writes = median(1001, || (), |_| capture::write(&set_up, &ports, &lengths, black_box(&bodies), &mut file).unwrap());
+    let reads = median(1001, || (), |_| assert!(Capture::read(black_box(&file)).is_ok()));
+    let copies = median(1001, || (), |_| copy.copy_from_slice(black_box(&bodies)));
+    (writes, reads, copies)
+}
+
 fn main() {
     println!("a media packet in good weather, each packet of the window in turn, L 10, D 10");
     for (n, k, p) in [(200, 40, 1316), (100, 40, 1316), (400, 40, 1316), (200, 10, 1316), (200, 128, 1316), (200, 40, 188), (200, 40, 752)]
@@ -217,6 +231,11 @@ fn main() {
     println!("  good weather, n 200, K 40  {each:7.0} ns   memcpy of the payloads {copy:5.0} ns   {:.1} times", each / copy);
     println!("  rebuilds one other, NA 10  {:7.0} ns", rebuilds_one(10, Stretch::mixed(1316)));
     println!("  20 parity packets, 10 x 10 {:7.0} ns", writes(&filled(Stretch::mixed(1316), 10, 10, 100, 40, &|_| false).0));
+    println!("\na capture file of 512 entries of one length");
+    for length in [0, 200, 1328] {
+        let (writes, reads, copies) = captures(length);
+        println!("  {length:4} bytes each   written {writes:7.0} ns   judged {reads:7.0} ns   memcpy of the bodies {copies:7.0} ns");
+    }
     // Last: ISA-L leaves the upper halves of the vector registers in use, and code without AVX is slower after it.
     println!();
     writing();
