@@ -1,10 +1,11 @@
 /* Capture files under libFuzzer. Each input is taken for a file, and judged by a few plain lines of C, written from request 2 alone. The
  * library has to say the same of it: at once, cut in two anywhere, and byte by byte, where every front of the file is judged too. A file
  * that is one is taken apart by its header and entries, written again into an output of its length, and has to be the same bytes; one
- * byte less is 4, and nothing is written. The fuzzer sees the branches of the judge, and so finds its way into table and bodies.
+ * byte less is 4, and nothing is written. The fuzzer sees the branches of the judge; and every other input that it makes is mended, so
+ * that files of many entries are met, and what comes of them by one change more.
  *
  *     clang -g -O1 -fsanitize=fuzzer,address,undefined -Iinclude tests/fuzz_capture.c target/staticlib/libcongaveil.a -o target/fuzz-capture
- *     mkdir -p target/files && target/fuzz-capture -max_total_time=300 -use_value_profile=1 target/files */
+ *     mkdir -p target/files && target/fuzz-capture -max_total_time=300 -max_len=8192 target/files */
 #include "congaveil.h"
 #include <stdio.h>
 #include <stdlib.h>
@@ -48,6 +49,52 @@ static int is_file(const uint8_t *file, size_t len)
         end += number(line + 2, 2);
     }
     return len == end;
+}
+
+/* ---- inputs */
+
+static void put(uint8_t *at, size_t n, int bytes)
+{
+    while (bytes--) {
+        at[bytes] = (uint8_t)n;
+        n >>= 8;
+    }
+}
+
+/* Makes a file of some bytes, as long as there is room for: ports, zeros and starts are set right, a count and a length brought down to
+ * one above its limit at most. */
+static size_t mended(uint8_t *file, size_t len, size_t room)
+{
+    size_t i, count, end;
+    if (room < HEADER || len < HEADER)
+        return len;
+    count = number(file, 2) % (ENTRIES + 2);
+    if (count > (room - HEADER) / LINE)
+        count = (room - HEADER) / LINE;
+    end = HEADER + LINE * count;
+    if (len < room)
+        memset(file + len, 0, room - len);
+    put(file, count, 2);
+    for (i = 0; i < count; i++) {
+        uint8_t *line = file + HEADER + LINE * i;
+        size_t length = number(line + 2, 2) % (BODY + 2);
+        if (length > room - end)
+            length = 0;
+        line[0] = 1 + line[0] % 3;
+        line[1] = 0;
+        put(line + 2, length, 2);
+        put(line + 4, end, 4);
+        end += length;
+    }
+    return end;
+}
+
+size_t LLVMFuzzerMutate(uint8_t *data, size_t size, size_t room);
+
+size_t LLVMFuzzerCustomMutator(uint8_t *data, size_t size, size_t room, unsigned seed)
+{
+    size = LLVMFuzzerMutate(data, size, room);
+    return seed % 2 ? mended(data, size, room) : size;
 }
 
 /* ---- the library */
