@@ -634,7 +634,7 @@ static int write_file(void)
 static void read_file(int whole)
 {
     struct call one, c;
-    size_t at = 0, piece;
+    size_t at = 0, piece = 1, before;
     memset(&one, 0, sizeof one);
     one.kind = FILE_READ;
     c = one;
@@ -644,8 +644,10 @@ static void read_file(int whole)
         fail("a file that was written is refused");
     while (at < file_len) {
         int refused = c.reader.stage == CGV_CAPTURE_REFUSED;
+        before = piece;
         piece = one_in(3) ? (size_t)draw(9) : (size_t)draw(file_len);
-        piece = piece > file_len - at ? file_len - at : piece;
+        if (piece > file_len - at || (!piece && !before)) /* a fuzzer whose bytes have run out draws zeros for ever */
+            piece = file_len - at;
         lay_bytes(file + at, c.len = piece);
         attack_file(&c);
         if (refused && c.reader.stage != CGV_CAPTURE_REFUSED)

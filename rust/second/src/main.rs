@@ -43,15 +43,16 @@ struct Run {
     traffic: pair::Tally,
     stopping: stopping::Tally,
     captures: captures::Tally,
-    files: Vec<captures::Capture>,
+    /// The captures, or why they cannot be read: that shows when their turn comes, after the reader of capture files was compared.
+    files: Result<Vec<captures::Capture>, String>,
     contents: files::Tally,
 }
 
 impl Run {
-    fn new() -> Result<Run, String> {
-        let files = captures::load()?;
-        let captures = captures::Tally { captures: files.len() as u64, ..Default::default() };
-        Ok(Run { traffic: Default::default(), stopping: Default::default(), captures, files, contents: Default::default() })
+    fn new() -> Run {
+        let files = captures::load();
+        let captures = captures::Tally { captures: files.as_ref().map_or(0, Vec::len) as u64, ..Default::default() };
+        Run { traffic: Default::default(), stopping: Default::default(), captures, files, contents: Default::default() }
     }
 
     fn window(&mut self, seed: u64) -> Result<(), String> {
@@ -67,7 +68,7 @@ impl Run {
     }
 
     fn pattern(&mut self, seed: u64) -> Result<(), String> {
-        for file in &self.files {
+        for file in self.files.as_ref().map_err(String::clone)? {
             file.run(seed, &mut self.captures).map_err(|text| format!("DIFFERENCE in a capture, seed {seed}: {text}"))?;
         }
         Ok(())
@@ -224,11 +225,11 @@ fn main() -> ExitCode {
     let result = match program {
         Some(program) if files.is_empty() => replays::run(&program, seed.unwrap_or(1)),
         Some(program) => replays::run_files(&program, &files),
-        None => Run::new().and_then(|mut run| match (seconds, seed) {
-            (None, None) => run.fixed(),
-            (None, Some(seed)) => run.again(seed),
-            (Some(seconds), seed) => run.long(Duration::from_secs(seconds), seed.unwrap_or(1_000_000_000)),
-        }),
+        None => match (seconds, seed) {
+            (None, None) => Run::new().fixed(),
+            (None, Some(seed)) => Run::new().again(seed),
+            (Some(seconds), seed) => Run::new().long(Duration::from_secs(seconds), seed.unwrap_or(1_000_000_000)),
+        },
     };
     match result {
         Ok(()) => ExitCode::SUCCESS,
