@@ -17,7 +17,8 @@ use Rattle.window.specs.Group.{group, missing}
 use Rattle.window.specs.Order.{used}
 use Rattle.calls.specs.State.{State, scene, recount, release}
 use Rattle.calls.specs.Settle.{spent, releaseSpent, releaseBelow, releaseAll}
-use Rattle.table.specs.View.{Row, nobody, slotAt, missingAt, itAt, put, slots, scatter}
+use Rattle.table.specs.Note.{saysNone, none-is}
+use Rattle.table.specs.View.{Row, nobody, slotAt, noteAt, itAt, put, slots, scatter}
 use Rattle.table.specs.Apart.{Free, Fits, get-scatter, set-scatter, apart-scatter, slots-put, same-slot, same-fits, same-length}
 use Rattle.table.specs.Fold.{below, rows, fold}
 use Rattle.table.specs.Sound.{SoundRow, Sound}
@@ -49,7 +50,7 @@ module _ (w : Window) (marks : List ℕ) (hs : List Row) where
           absurd (let q : _≡_ {A = Bool} false true = sym free ∙ u in let n : _≡_ {A = ℕ} 0 1 = cc in omega arith)
       row j h u false e =
           let n = eqb-false j i e in
-          let o = getD-set-other gs i j (record { slot = slotAt gs i; missing = missingAt gs i; it = blank }) nobody n in
+          let o = getD-set-other gs i j (record { slot = slotAt gs i; note = noteAt gs i; it = blank }) nobody n in
           subst (λ (r : Row). SoundRow w marks r) (sym o) (s .at j h (ap (λ (r : Row). used (r .it)) (sym o) ∙ u))
 
   module _ (np : ℕ) (room : w .k * w .p ≤ np) where
@@ -73,7 +74,7 @@ module _ (w : Window) (marks : List ℕ) (hs : List Row) where
         first false b e = e
 
         go : (t : Bool) → rowSpent (d .rows) i ≡ t → Keeps w marks np hs (cond t (freeRow i d) d)
-        go true e = keeps-row d i l (first (used (itAt (d .rows) i)) (eqb (missingAt (d .rows) i) 0) e) k
+        go true e = keeps-row d i l (first (used (itAt (d .rows) i)) (saysNone (noteAt (d .rows) i)) e) k
         go false e = k
 
     keeps-below : (d : Desk) (m : ℕ) → m ≤ length hs → Keeps w marks np hs d → Keeps w marks np hs (below freeSpent m d)
@@ -99,8 +100,8 @@ module _ (w : Window) (marks : List ℕ) (hs : List Row) where
           let e : getD (scatter (d .rows) t) (slotAt hs i) blank ≡ itAt (d .rows) i = ap (λ (q : ℕ). getD (scatter (d .rows) t) q blank) (sym (same-slot hs (d .rows) (k .same-slots) i)) ∙ get-scatter (fits .apart) (fits .enough) i n in
           rw (e, k .same) (go n (used (itAt (d .rows) i)) refl)
         where
-          go : i < length (d .rows) → (u : Bool) → used (itAt (d .rows) i) ≡ u → (u && eqb (length (missing marks (group w (itAt (d .rows) i .stream) (itAt (d .rows) i .snbase)))) 0) ≡ (u && eqb (missingAt (d .rows) i) 0)
-          go n true e = ap (λ (c : ℕ). eqb c 0) (sym (k .sound .at i n e .counted))
+          go : i < length (d .rows) → (u : Bool) → used (itAt (d .rows) i) ≡ u → (u && eqb (length (missing marks (group w (itAt (d .rows) i .stream) (itAt (d .rows) i .snbase)))) 0) ≡ (u && saysNone (noteAt (d .rows) i))
+          go n true e = sym (ap saysNone (k .sound .at i n e .noted) ∙ none-is marks (group w (itAt (d .rows) i .stream) (itAt (d .rows) i .snbase)))
           go n false e = refl
 
       pub freed : (d : Desk) → Keeps w marks np hs d → (i : ℕ) → i < length hs → release (slotAt hs i) (shown d) ≡ shown (freeRow i d)

@@ -1,5 +1,5 @@
 pub mod Same
-pub mod Lowered
+pub mod Again
 pub mod Next
 pub mod Free
 pub mod Turns

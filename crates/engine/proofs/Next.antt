@@ -8,7 +8,7 @@ use native.Mathlib.Numerals.{add-one}
 use native.Mathlib.Omega.{arith}
 use lib.Dec.{eqb, ltb}
 use lib.ListN.{length, getD}
-use borrow.Author.Tests.{lt-ltb, le-ltb, ltb-true, ltb-false, eqb-true}
+use borrow.Author.Tests.{lt-ltb, le-ltb, ltb-true, ltb-false}
 use Rattle.sequence.specs.Lists.{and-split}
 use Rattle.window.specs.declared.Record.{Record}
 use Rattle.window.specs.declared.Window.{Window}
@@ -18,7 +18,8 @@ use Rattle.window.specs.Group.{group, missing}
 use Rattle.window.specs.Order.{used}
 use Rattle.calls.specs.State.{State, scene}
 use Rattle.calls.specs.Settle.{ready, rank, better, nextBelow, next}
-use Rattle.table.specs.View.{Row, slotAt, missingAt, itAt, scatter}
+use Rattle.table.specs.View.{Row, slotAt, noteAt, itAt, scatter}
+use Rattle.table.specs.Note.{saysOne, one-is}
 use Rattle.table.specs.Apart.{Free, Fits, get-scatter, apart-scatter}
 use Rattle.table.specs.Fold.{below, rows, steps}
 use Rattle.table.specs.Sound.{Sound}
@@ -93,8 +94,8 @@ module _ (w : Window) (x : Parts) (s : Sound w (x .marks) (x .rows)) (t : List R
   ready-is : (i : ℕ) → i < length (x .rows) → ready it (slotAt (x .rows) i) ≡ rowReady (x .rows) i
   ready-is i l = rw (record-is i l) (go (used (itAt (x .rows) i)) refl)
     where
-      go : (t : Bool) → used (itAt (x .rows) i) ≡ t → (t && eqb (length (missing (x .marks) (group w (itAt (x .rows) i .stream) (itAt (x .rows) i .snbase)))) 1) ≡ (t && eqb (missingAt (x .rows) i) 1)
-      go true e = ap (λ (n : ℕ). eqb n 1) (sym (s .at i l e .counted))
+      go : (t : Bool) → used (itAt (x .rows) i) ≡ t → (t && eqb (length (missing (x .marks) (group w (itAt (x .rows) i .stream) (itAt (x .rows) i .snbase)))) 1) ≡ (t && saysOne (noteAt (x .rows) i))
+      go true e = sym (ap saysOne (s .at i l e .noted) ∙ one-is (x .marks) (group w (itAt (x .rows) i .stream) (itAt (x .rows) i .snbase)))
       go false e = refl
 
   rank-is : (i : ℕ) → i < length (x .rows) → rank it (slotAt (x .rows) i) ≡ rowRank (w .base) (x .rows) i
@@ -146,10 +147,8 @@ module _ (base : ℕ) (hs : List Row) where
       go none eo ih p = here (rowReady hs m) none refl (λ q. ih (eo ∙ q)) p
       go (some q) eo ih p = both q (rowReady hs m) (ltb (rowRank base hs m) (rowRank base hs q)) refl (λ f. ih (eo ∙ f)) p
 
-  pub found-ready : (m r : ℕ) → nextRow base hs m ≡ found m r → r < m → (used (itAt hs r) ≡ true) × (missingAt hs r ≡ 1)
-  found-ready m r e l =
-      let h = and-split (used (itAt hs r)) (eqb (missingAt hs r) 1) (ready-below m r (e ∙ rw (lt-ltb r m l))) in
-      (h .0, eqb-true (missingAt hs r) 1 (h .1))
+  pub found-ready : (m r : ℕ) → nextRow base hs m ≡ found m r → r < m → (used (itAt hs r) ≡ true) × (saysOne (noteAt hs r) ≡ true)
+  found-ready m r e l = and-split (used (itAt hs r)) (saysOne (noteAt hs r)) (ready-below m r (e ∙ rw (lt-ltb r m l)))
 
 pub found-at : (hs : List Row) (m r : ℕ) → r < m → atSlot hs (found m r) ≡ some (slotAt hs r)
 found-at hs m r h = rw (lt-ltb r m h)

@@ -1,20 +1,19 @@
--- The three ways through a round: no row is ready; one is spoilt, and is released; or one rebuilds, the counts fall, and what is spent is released. Assumes nothing.
+-- The three ways through a round: no row is ready; one is spoilt, and is released; or one rebuilds, its position is looked at again, and what is spent is released. Assumes nothing.
 use mathlib.Core.Path.{_≡_, refl, sym, ap, subst, _∙_}
 use mathlib.Core.Bool.{Bool, true, false, cond}
 use mathlib.Core.List.{List, [], _∷_}
-use mathlib.Core.Option.{Option, none, some}
+use mathlib.Core.Option.{none, some}
 use Prim.Native.Nat.{ℕ, _+_, _*_, _^_, _<_, _≤_}
 use native.Mathlib.Nat.{add-zero}
 use native.Mathlib.Omega.{arith}
 use lib.ListN.{length, getD, take, drop, set, length-set}
-use lib.Seq.{paste}
-use borrow.Author.Tests.{eqb-true}
-use Rattle.sequence.specs.Lists.{keep, headOr}
+use borrow.Author.Tests.{leb-true}
+use Rattle.sequence.specs.Lists.{headOr}
 use Rattle.window.specs.declared.Record.{Record}
 use Rattle.window.specs.declared.Window.{Window}
 use Rattle.window.specs.Record.{blank}
 use Rattle.window.specs.Limits.{width}
-use Rattle.window.specs.Store.{stored, recordAt}
+use Rattle.window.specs.Store.{stored}
 use Rattle.window.specs.Group.{group, isMissing, missing}
 use Rattle.window.specs.Order.{used}
 use Rattle.window.specs.Plain.{Inside}
@@ -22,17 +21,17 @@ use Rattle.xor.specs.Xor.{padded}
 use Rattle.calls.specs.Content.{Recovery}
 use Rattle.calls.specs.State.{State, scene, recount, rebuild, countSpoilt, release}
 use Rattle.calls.specs.Settle.{next, fitsAt, rebuildBy, releaseAll, round}
-use Rattle.table.specs.View.{Row, nobody, slotAt, missingAt, itAt, slots, scatter}
-use Rattle.table.specs.Apart.{Fits, Alike, get-scatter, alike-scatter, alike-fits, alike-length}
+use Rattle.table.specs.View.{Row, nobody, slotAt, noteAt, itAt, scatter}
+use Rattle.table.specs.Note.{saysOne, oneAt, place-is}
+use Rattle.table.specs.Apart.{Fits, get-scatter, alike-scatter, alike-fits, alike-length}
 use Rattle.table.specs.Sound.{SoundRow, Sound}
 use Rattle.group.specs.Held.{Below}
 use Rattle.group.specs.Tried.{Tried}
 use Rattle.group.proofs.Rows.{kept-below}
-use Rattle.engine.specs.declared.Round.{Round}
-use Rattle.engine.specs.Rows.{LoweredAll, nextRow, found, Desk, freeRow, freeBelow}
+use Rattle.engine.specs.Rows.{AgainAll, nextRow, found, Desk, freeRow, freeBelow}
 use Rattle.engine.specs.Round.{Parts, over, Serves, Rounded}
 use Rattle.engine.proofs.Same.{set-up-same, sound-same, recount-twice}
-use Rattle.engine.proofs.Lowered.{head-kept, lowered-sound}
+use Rattle.engine.proofs.Again.{again-sound}
 use Rattle.engine.proofs.Next.{atSlot, next-rows, found-ready, found-at, found-none}
 use Rattle.engine.proofs.Free.{desk, Keeps, keeps-row, keeps-all, freed, free-all}
 
@@ -94,15 +93,23 @@ module _ (w : Window) (based : w .base < 2 ^ width) (x : Parts) (serves : Serves
     pub size-low : v .«payload_length» ≤ w .p
     size-low = rw ev (sound-row .size-low)
 
-    one-missing : length (missing (x .marks) (group w (v .stream) (v .snbase))) ≡ 1
-    one-missing = rw ev (sym (sound-row .counted) ∙ found-ready (w .base) (x .rows) m r is l .1)
+    row-one : saysOne (noteAt (x .rows) r) ≡ true
+    row-one = found-ready (w .base) (x .rows) m r is l .1
 
-    -- its missing packet
-    pub missing-here : (i : ℕ) → i ≡ headOr 0 (missing (x .marks) (group w (v .stream) (v .snbase))) → (i < w .n) × (getD (x .marks) i 0 ≡ 0)
-    missing-here i e = (
-      rw e (head-below (w .n) (missing (x .marks) (group w (v .stream) (v .snbase))) (kept-below w based (serves .set-up) (v .stream) (v .snbase) row-inside (isMissing (x .marks))) one-missing),
-      eqb-true (getD (x .marks) i 0) 0 (rw e (head-kept (isMissing (x .marks)) (group w (v .stream) (v .snbase)) one-missing)),
-    )
+    pub note-high : 2 ≤ noteAt (x .rows) r
+    note-high = leb-true 2 (noteAt (x .rows) r) row-one
+
+    -- its missing packet is at the position that it notes
+    one-missing : missing (x .marks) (group w (v .stream) (v .snbase)) ≡ oneAt (noteAt (x .rows) r) ∷ []
+    one-missing =
+        let g = group w (itAt (x .rows) r .stream) (itAt (x .rows) r .snbase) in
+        rw ev (place-is (x .marks) g (sym (ap saysOne (sound-row .noted)) ∙ row-one) ∙ ap (λ (n : ℕ). oneAt n ∷ []) (sym (sound-row .noted)))
+
+    noted-here : (i : ℕ) → i ≡ oneAt (noteAt (x .rows) r) → i ≡ headOr 0 (missing (x .marks) (group w (v .stream) (v .snbase)))
+    noted-here i e = e ∙ ap (headOr 0) (sym one-missing)
+
+    pub missing-low : (i : ℕ) → i ≡ oneAt (noteAt (x .rows) r) → i < w .n
+    missing-low i e = rw (noted-here i e) (head-below (w .n) (missing (x .marks) (group w (v .stream) (v .snbase))) (kept-below w based (serves .set-up) (v .stream) (v .snbase) row-inside (isMissing (x .marks))) (ap length one-missing))
 
     -- of every table the record at the slot is that of the row
     here : (t : List Record) → Fits t (w .k) (x .rows) → getD (scatter (x .rows) t) s blank ≡ v
@@ -112,7 +119,7 @@ module _ (w : Window) (based : w .base < 2 ^ width) (x : Parts) (serves : Serves
     next-here t f b q = next-at t f b q ∙ found-at (x .rows) m r l ∙ ap some (sym es)
 
     -- its rebuild was tried
-    module _ (i : ℕ) (ei : i ≡ headOr 0 (missing (x .marks) (group w (v .stream) (v .snbase)))) (media timestamps lengths marks : List ℕ) (ok : Bool) (n : ℕ) (en : n ≡ v .«payload_length»)
+    module _ (i : ℕ) (en₀ : i ≡ oneAt (noteAt (x .rows) r)) (media timestamps lengths marks : List ℕ) (ok : Bool) (n : ℕ) (en : n ≡ v .«payload_length»)
         (told : Tried w (group w (v .stream) (v .snbase)) i (carried w (x .parity) v s n) ok (x .media) (x .timestamps) (x .lengths) (x .marks) media timestamps lengths marks) where
       tried : Tried w (group w (v .stream) (v .snbase)) i (carried w (x .parity) v s (v .«payload_length»)) ok (x .media) (x .timestamps) (x .lengths) (x .marks) media timestamps lengths marks
       tried = subst (λ (k : ℕ). Tried w (group w (v .stream) (v .snbase)) i (carried w (x .parity) v s k) ok (x .media) (x .timestamps) (x .lengths) (x .marks) media timestamps lengths marks) en told
@@ -162,23 +169,23 @@ module _ (w : Window) (based : w .base < 2 ^ width) (x : Parts) (serves : Serves
         }
 
       -- it fits
-      module _ (good : ok ≡ true) (hs : List Row) (lowered : LoweredAll w i (x .rows) hs) (more : Window) (ew : more ≡ recount w (w .present + 1) (w .«in_use»)) where
+      module _ (good : ok ≡ true) (more : Window) (ew : more ≡ recount w (w .present + 1) (w .«in_use»)) (hs : List Row) (again : AgainAll more i marks (x .rows) hs) where
         ek : marks ≡ set (x .marks) i 1
         ek = tried .done good .3
 
         -- what the rebuild leaves, of every table
         rebuilt : (t : List Record) → Fits t (w .k) (x .rows) → (b q : ℕ) → scene more (stored media timestamps lengths marks (x .parity) (scatter hs t)) (b + 1) q ≡ rebuildBy s (scene w (over x t) b q)
         unfolding rebuild
-        rebuilt t f b q = rw (tried .done good .0, tried .done good .1, tried .done good .2, ek, ew, alike-scatter (lowered .alike) t, here t f, ei)
+        rebuilt t f b q = rw (tried .done good .0, tried .done good .1, tried .done good .2, ek, ew, alike-scatter (again .alike) t, here t f, noted-here i en₀)
 
         sound-now : Sound more marks hs
         sound-now =
-            let h = missing-here i ei in
-            sound-same w more (w .present + 1) (w .«in_use») marks hs ew (rw ek (lowered-sound w i (x .marks) (x .rows) hs (omega (arith, h .0, serves .marks-long)) (h .1) (serves .sound) lowered))
+            let was : Sound more (x .marks) (x .rows) = sound-same w more (w .present + 1) (w .«in_use») (x .marks) (x .rows) ew (serves .sound) in
+            subst (λ (k : List ℕ). Sound more k hs) (sym ek) (again-sound more i (x .marks) (x .rows) hs was (subst (λ (k : List ℕ). AgainAll more i k (x .rows) hs) ek again))
 
         -- what is asked of the rows before the release
         pub low-now : (j : ℕ) → j < m → used (itAt hs j) ≡ true → slotAt hs j < more .k
-        low-now j h u = sound-now .at j (omega (arith, h, long, alike-length (lowered .alike))) u .slot-low
+        low-now j h u = sound-now .at j (omega (arith, h, long, alike-length (again .alike))) u .slot-low
 
         pub room-now : more .k * more .p ≤ length (x .parity)
         room-now = rw ew (serves .parity-long)
@@ -191,7 +198,7 @@ module _ (w : Window) (based : w .base < 2 ^ width) (x : Parts) (serves : Serves
           y = record { media = media; timestamps = timestamps; lengths = lengths; marks = marks; parity = parity; rows = hs′ }
 
           length-now : length hs ≡ m
-          length-now = alike-length (lowered .alike) ∙ long
+          length-now = alike-length (again .alike) ∙ long
 
           keeps : Keeps more marks (length (x .parity)) hs (desk window parity hs′)
           keeps = subst (λ (d : Desk). Keeps more marks (length (x .parity)) hs d) (sym e) (keeps-all more marks hs (length (x .parity)) room-now (desk more (x .parity) hs) m (omega (arith, length-now)) keeps-start)
@@ -204,7 +211,7 @@ module _ (w : Window) (based : w .base < 2 ^ width) (x : Parts) (serves : Serves
 
           all : (t : List Record) → Fits t (w .k) (x .rows) → (b q : ℕ) → scene window (over y t) (b + 1) (q + 0) ≡ round (scene w (over x t) b q)
           all t f b q =
-              let fits : Fits t (more .k) hs = rw ew (alike-fits (lowered .alike) f) in
+              let fits : Fits t (more .k) hs = rw ew (alike-fits (again .alike) f) in
               ap (λ (d : Desk). scene (d .window) (stored media timestamps lengths marks (d .parity) (scatter (d .rows) t)) (b + 1) (q + 0)) (e ∙ ap (λ (n : ℕ). freeBelow n (desk more (x .parity) hs)) (sym length-now))
               ∙ free-all more marks hs (length (x .parity)) room-now media timestamps lengths t fits (b + 1) (q + 0) (x .parity) more refl keeps-start
               ∙ ap releaseAll (ap (scene more (stored media timestamps lengths marks (x .parity) (scatter hs t)) (b + 1)) (add-zero q) ∙ rebuilt t f b q)
@@ -223,7 +230,7 @@ module _ (w : Window) (based : w .base < 2 ^ width) (x : Parts) (serves : Serves
                   parity-long = rw (kept-window, keeps .long) (serves .parity-long);
                   sound = sound-same more window (window .present) (window .«in_use») marks hs′ (keeps .same) (keeps .sound);
                 };
-            same-slots = keeps .same-slots ∙ lowered .alike .same-slots;
+            same-slots = keeps .same-slots ∙ again .alike .same-slots;
             small = omega arith;
             more-present = let a = keeps .present in let b : more .present ≡ w .present + 1 = ap (λ (u : Window). u .present) ew in omega arith;
             is = all;

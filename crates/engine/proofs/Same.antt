@@ -25,7 +25,7 @@ set-up-same w v a b e h =
     })
 
 row-same : (w : Window) (a b : ℕ) (marks : List ℕ) (h : Row) → SoundRow w marks h → SoundRow (recount w a b) marks h
-row-same w a b marks h s = record { slot-low = s .slot-low; inside = record { below = s .inside .below }; size-low = s .size-low; counted = s .counted }
+row-same w a b marks h s = record { slot-low = s .slot-low; inside = record { below = s .inside .below }; size-low = s .size-low; noted = s .noted }
 
 pub sound-same : (w v : Window) (a b : ℕ) (marks : List ℕ) (hs : List Row) → v ≡ recount w a b → Sound w marks hs → Sound v marks hs
 sound-same w v a b marks hs e s = rw e (record { at = λ i l u. row-same w a b marks _ (s .at i l u) })

@@ -13,7 +13,7 @@ use Rattle.window.specs.declared.Window.{Window}
 use Rattle.window.specs.Record.{blank}
 use Rattle.window.specs.Order.{used}
 use Rattle.calls.specs.State.{recount}
-use Rattle.table.specs.View.{Row, nobody, slotAt, missingAt, itAt, put}
+use Rattle.table.specs.View.{Row, nobody, slotAt, noteAt, itAt, put}
 use Rattle.table.specs.Fold.{below}
 use Rattle.engine.specs.Rows.{Desk, rowSpent, freeRow, freeSpent}
 use Rattle.engine.proofs.Free.{desk}
@@ -40,7 +40,7 @@ low-put : (w : Window) (hs : List Row) (i : ℕ) → i < length hs → Low w hs 
 low-put w hs i l low j h u = go (eqb j i) refl
   where
     new : Row
-    new = record { slot = slotAt hs i; missing = missingAt hs i; it = blank }
+    new = record { slot = slotAt hs i; note = noteAt hs i; it = blank }
 
     go : (t : Bool) → eqb j i ≡ t → slotAt (put hs i blank) j < w .k
     go true e =

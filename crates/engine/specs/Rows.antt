@@ -4,48 +4,49 @@ use mathlib.Core.Bool.{Bool, true, cond, not, _&&_, _||_}
 use mathlib.Core.List.{List}
 use mathlib.Core.Option.{Option, none, some}
 use Prim.Native.Nat.{ℕ, _+_, _*_, _-_, _<_}
-use lib.Dec.{eqb, ltb}
-use lib.ListN.{length, getD, replicate}
+use lib.Dec.{ltb}
+use lib.ListN.{length, getD, set, replicate}
 use lib.Seq.{paste}
-use Rattle.sequence.specs.Lists.{count}
 use Rattle.sequence.specs.Wrap.{ahead}
-use Rattle.window.specs.declared.Record.{Record}
 use Rattle.window.specs.declared.Window.{Window}
 use Rattle.window.specs.Record.{blank}
 use Rattle.window.specs.Limits.{width}
-use Rattle.window.specs.Group.{group}
 use Rattle.window.specs.Order.{used}
 use Rattle.window.specs.Plain.{Inside}
 use Rattle.calls.specs.State.{recount}
-use Rattle.table.specs.View.{Row, nobody, slotAt, missingAt, itAt, put}
+use Rattle.table.specs.View.{Row, nobody, slotAt, noteAt, itAt, put}
+use Rattle.table.specs.Note.{saysNone, saysOne}
 use Rattle.table.specs.Apart.{Alike}
 use Rattle.table.specs.Fold.{below}
+use Rattle.table.specs.Sound.{SoundRow}
 use Rattle.engine.specs.declared.Best.{Best}
 
 -- ---- one packet more
 
--- a row after position i is no longer missing: it waits for one less where its group has the position
-pub record Lowered (w : Window) (i : ℕ) (h h′ : Row) : Type 0 where
-  pub same-slot : h′ .slot ≡ h .slot
-  pub same-it : h′ .it ≡ h .it
-  pub less : used (h .it) ≡ true → Inside w (h .it .stream) (h .it .snbase) → h′ .missing ≡ h .missing - count (eqb i) (group w (h .it .stream) (h .it .snbase))
+-- the group of each row in use lies in the window
+pub record InsideRows (w : Window) (hs : List Row) : Type 0 where
+  pub at : (j : ℕ) → j < length hs → used (itAt hs j) ≡ true → Inside w (itAt hs j .stream) (itAt hs j .snbase)
 
--- row j is lowered, and the others stay
-pub record LoweredAt (w : Window) (i j : ℕ) (hs hs′ : List Row) : Type 0 where
+-- a row after position i became present: what was right of it is right again
+pub record Again (w : Window) (i : ℕ) (marks : List ℕ) (h h′ : Row) : Type 0 where
+  pub right : (old : List ℕ) → marks ≡ set old i 1 → used (h .it) ≡ true → SoundRow w old h → SoundRow w marks h′
+
+-- row j is right again, and the others stay
+pub record AgainAt (w : Window) (i : ℕ) (marks : List ℕ) (j : ℕ) (hs hs′ : List Row) : Type 0 where
   pub alike : Alike hs′ hs
-  pub row : Lowered w i (getD hs j nobody) (getD hs′ j nobody)
+  pub row : Again w i marks (getD hs j nobody) (getD hs′ j nobody)
   pub others : (q : ℕ) → (q ≡ j → ⊥) → getD hs′ q nobody ≡ getD hs q nobody
 
--- every row is lowered
-pub record LoweredAll (w : Window) (i : ℕ) (hs hs′ : List Row) : Type 0 where
+-- every row is right again
+pub record AgainAll (w : Window) (i : ℕ) (marks : List ℕ) (hs hs′ : List Row) : Type 0 where
   pub alike : Alike hs′ hs
-  pub rows : (j : ℕ) → j < length hs → Lowered w i (getD hs j nobody) (getD hs′ j nobody)
+  pub rows : (j : ℕ) → j < length hs → Again w i marks (getD hs j nobody) (getD hs′ j nobody)
 
 -- ---- which row is next
 
 -- a row in use with one packet missing
 abbrev pub rowReady : List Row → ℕ → Bool
-rowReady hs i = used (itAt hs i) && eqb (missingAt hs i) 1
+rowReady hs i = used (itAt hs i) && saysOne (noteAt hs i)
 
 -- the order of rebuilding: by the position of SNBase, a column before a row
 abbrev pub rowRank : (base : ℕ) → List Row → ℕ → ℕ
@@ -78,7 +79,7 @@ pub record Desk : Type 0 where
 
 -- a row in use with none missing
 abbrev pub rowSpent : List Row → ℕ → Bool
-rowSpent hs i = used (itAt hs i) && eqb (missingAt hs i) 0
+rowSpent hs i = used (itAt hs i) && saysNone (noteAt hs i)
 
 -- the record of row i and its payload are set to zero
 abbrev pub freeRow : ℕ → Desk → Desk

@@ -1,9 +1,8 @@
-// Settling: parity in hand rebuilds until none of it has exactly one packet missing. How many packets each row waits for is
-// noted in the row, so a round looks at the rows alone: it lowers the counts of those whose group has the rebuilt packet.
+// Settling: parity in hand rebuilds until none of it has exactly one packet missing. Whether none, one or more of its group are
+// missing is noted in each row, so a round looks at the rows alone, and again at the groups that have the rebuilt packet.
 use window::Window;
 ghost use mathlib.Core.Path.{_≡_};
 ghost use mathlib.Core.Bool.{true, cond};
-ghost use mathlib.Core.List.{List};
 ghost use Prim.Native.Nat.{ℕ, _+_, _*_, _-_, _≤_, _<_};
 ghost use lib.Dec.{eqb};
 ghost use lib.ListN.{length};
@@ -16,11 +15,12 @@ ghost use Rattle.window.specs.Group.{group};
 ghost use Rattle.window.specs.Order.{used};
 ghost use Rattle.window.specs.Plain.{Inside};
 ghost use Rattle.calls.specs.State.{recount};
-ghost use Rattle.table.specs.View.{hand, slotAt, itAt};
-ghost use Rattle.engine.specs.Rows.{LoweredAt, LoweredAll, rowReady, nextRow, found, pick, freeRow, freeSpent, freeBelow};
+ghost use Rattle.table.specs.View.{hand, slotAt, noteAt, itAt};
+ghost use Rattle.table.specs.Note.{oneAt};
+ghost use Rattle.engine.specs.Rows.{InsideRows, AgainAt, AgainAll, rowReady, nextRow, found, pick, freeRow, freeSpent, freeBelow};
 ghost use Rattle.engine.specs.Round.{Serves, Rounded, Settled};
 
-// ---- one packet more: how many packets each row waits for
+// ---- one packet more: the rows that waited for it
 
 // Position i is `at` or one of the na - 1 places that follow it in steps of `offset`; most are ruled out before the division.
 fn on_line(at: usize, offset: usize, na: usize, i: usize) -> bool
@@ -44,10 +44,10 @@ fn is_member(w: Window, stream: u8, snbase: u16, i: usize) -> bool
     on_line(at, offset, na, i)
 }
 
-// Position i is no longer missing: row j, if it is in use and its group has it, waits for one less.
-fn lower_row(w: Window, i: usize, rows: &mut [u32], j: usize)
-    requires { ⌜ SetUp w × (j < length (hand (now rows))) ⌝ }
-    ensures { λ _. ⌜ LoweredAt w i j (hand (now (rows .entry))) (hand (now (rows .exit))) ⌝ }
+// Position i is no longer missing: row j, if it is in use and its group has it, is looked at again.
+fn look_again_at(w: Window, i: usize, marks: &[u8], rows: &mut [u32], j: usize)
+    requires { ⌜ SetUp w × (w .n ≤ length (now marks)) × (j < length (hand (now rows))) × InsideRows w (hand (now rows)) ⌝ }
+    ensures { λ _. ⌜ AgainAt w i (now (marks .entry)) j (hand (now (rows .entry))) (hand (now (rows .exit))) ⌝ }
 {
     let v = table::record_at(rows, j);
     if v.in_use != 1 {
@@ -56,17 +56,19 @@ fn lower_row(w: Window, i: usize, rows: &mut [u32], j: usize)
     if !is_member(w, v.stream, v.snbase, i) {
         return;
     }
-    table::lower_missing(rows, j);
+    let found = group::look(w, marks, v.stream, v.snbase);
+    let note = table::note_of(found);
+    table::put_note(rows, j, note);
 }
 
-// Position i is no longer missing: each of the m rows is lowered.
-pub fn lower(w: Window, i: usize, rows: &mut [u32], m: usize)
-    requires { ⌜ SetUp w × (length (hand (now rows)) ≡ m) ⌝ }
-    ensures { λ _. ⌜ LoweredAll w i (hand (now (rows .entry))) (hand (now (rows .exit))) ⌝ }
+// Position i is no longer missing: each of the m rows whose group has it is looked at again.
+pub fn look_again(w: Window, i: usize, marks: &[u8], rows: &mut [u32], m: usize)
+    requires { ⌜ SetUp w × (w .n ≤ length (now marks)) × (length (hand (now rows)) ≡ m) × InsideRows w (hand (now rows)) ⌝ }
+    ensures { λ _. ⌜ AgainAll w i (now (marks .entry)) (hand (now (rows .entry))) (hand (now (rows .exit))) ⌝ }
 {
     let mut j = 0;
     while j < m {
-        lower_row(w, i, rows, j);
+        look_again_at(w, i, marks, rows, j);
         j += 1;
     }
 }
@@ -79,7 +81,15 @@ fn row_ready(rows: &[u32], i: usize) -> bool
     ensures { λ r. ⌜ r ≡ rowReady (hand (now (rows .entry))) i ⌝ }
 {
     let v = table::record_at(rows, i);
-    (v.in_use == 1) & (table::missing_at(rows, i) == 1)
+    (v.in_use == 1) & (table::NOTE_ONE <= table::note_at(rows, i))
+}
+
+// The position of the one packet that is missing of the group of row i.
+fn row_missing(rows: &[u32], i: usize) -> usize
+    requires { ⌜ (i < length (hand (now rows))) × (2 ≤ noteAt (hand (now rows)) i) ⌝ }
+    ensures { λ r. ⌜ r ≡ oneAt (noteAt (hand (now (rows .entry))) i) ⌝ }
+{
+    table::note_at(rows, i) - table::NOTE_ONE
 }
 
 // The order of rebuilding: by the position of SNBase, a column before a row.
@@ -171,7 +181,7 @@ fn release_row(w: Window, i: usize, parity: &mut [u8], rows: &mut [u32]) -> Wind
     if v.in_use != 1 {
         return w;
     }
-    if table::missing_at(rows, i) != 0 {
+    if table::note_at(rows, i) != table::NOTE_NONE {
         return w;
     }
     free_row(w, i, parity, rows)
@@ -201,8 +211,8 @@ pub struct Round {
     pub spoilt: usize,
 }
 
-// The next row rebuilds its missing packet, the rows that waited for it wait for one less, and what is spent is released; or it is
-// spoilt, and is released itself.
+// The next row rebuilds its missing packet, the rows that waited for it are looked at again, and what is spent is released; or it
+// is spoilt, and is released itself.
 fn one_round(
     w: Window,
     media: &mut [u8],
@@ -228,7 +238,7 @@ fn one_round(
     let v = table::record_at(rows, r);
     let s = table::slot_at(rows, r);
     let p = w.p;
-    let i = group::first_missing(w, marks, v.stream, v.snbase);
+    let i = row_missing(rows, r);
     let good = group::rebuild_at(
         w,
         v.stream,
@@ -252,8 +262,8 @@ fn one_round(
             spoilt: 1,
         };
     }
-    lower(w, i, rows, m);
     let more = recounted(w, w.present + 1, w.in_use);
+    look_again(more, i, marks, rows, m);
     let window = release_all(more, parity, rows, m);
     Round {
         window,

@@ -1,21 +1,20 @@
 -- The members one after another: each is the wrapping sum of the one before and Offset, and those of a group are its positions. Assumes nothing.
-use mathlib.Core.Path.{_≡_, refl, sym, ap, _∙_}
+use mathlib.Core.Path.{_≡_, sym, ap, _∙_}
 use mathlib.Core.Bool.{Bool, true, false, cond}
-use mathlib.Core.List.{List, [], _∷_, _++_, append-nil, map, map-map}
-use Prim.Native.Nat.{ℕ, suc, _+_, _*_, _%_, _^_, _<_, _≤_}
-use native.Mathlib.Nat.{mod-eq-of-lt, add-zero}
+use mathlib.Core.List.{List, [], _∷_, _++_, append-nil, map-map}
+use Prim.Native.Nat.{ℕ, _+_, _*_, _%_, _^_, _<_, _≤_}
+use native.Mathlib.Nat.{mod-eq-of-lt}
 use native.Mathlib.Numerals.{add-one}
 use native.Mathlib.Omega.{arith}
-use mir.Val.{boolByte}
 use lib.ListN.{length, take, set}
 use lib.Seq.{take-suc-set}
-use Rattle.sequence.specs.Lists.{upTo, keep, count, keep-append, map-append, count-append}
+use Rattle.sequence.specs.Lists.{upTo, keep, keep-append, map-append}
 use Rattle.sequence.specs.Wrap.{ahead, member, member-suc}
 use Rattle.rtp.specs.Fec.{offsetOf, naOf}
 use Rattle.window.specs.declared.Window.{Window}
 use Rattle.window.specs.Limits.{width, mostSide}
 use Rattle.window.specs.Bounds.{SetUp}
-use Rattle.window.specs.Group.{group, isMissing, present}
+use Rattle.window.specs.Group.{group}
 use Rattle.window.specs.Plain.{Inside, shape-of, member-below}
 use Rattle.group.specs.Along.{memberAt, along}
 
@@ -34,14 +33,6 @@ place-is base snbase offset j number i e h = h ∙ ap (ahead width base) e
 -- one member more
 pub along-more : (base snbase offset j : ℕ) → along base snbase offset (j + 1) ≡ along base snbase offset j ++ (memberAt base snbase offset j ∷ [])
 along-more base snbase offset j = rw add-one (map-append (memberAt base snbase offset) (upTo j) (j ∷ []))
-
-one-length : (i : ℕ) (t : Bool) → length (cond t (i ∷ []) []) ≡ boolByte t
-one-length i true = refl
-one-length i false = refl
-
-pub count-along-more : (test : ℕ → Bool) (base snbase offset j i s : ℕ) → i ≡ memberAt base snbase offset j → s ≡ count test (along base snbase offset j) → s + boolByte (test i) ≡ count test (along base snbase offset (j + 1))
-count-along-more test base snbase offset j i s e h =
-    rw (along-more base snbase offset j, count-append test (along base snbase offset j) (memberAt base snbase offset j ∷ []), ← e, ← h, one-length i (test i)) refl
 
 module _ (test : ℕ → Bool) (base snbase offset j : ℕ) (rows : List ℕ) (n i : ℕ) (e : i ≡ memberAt base snbase offset j) (h : take n rows ≡ keep test (along base snbase offset j)) where
   kept : keep test (along base snbase offset (j + 1)) ≡ take n rows ++ cond (test i) (i ∷ []) []

@@ -1,4 +1,4 @@
 pub mod Along
 pub mod Rows
-pub mod First
 pub mod Longest
+pub mod Looking

@@ -1,5 +1,6 @@
-// A group of parity: its members, each by one more wrapping add of Offset; how many of them are missing; what is held of
-// them added up; and the one missing packet rebuilt from it.
+// A group of parity: its members, each by one more wrapping add of Offset; whether none, one or more of them are missing; what is
+// held of them added up; and the one missing packet rebuilt from it.
+use window::Look;
 use window::Window;
 ghost use mathlib.Core.Path.{_≡_};
 ghost use mathlib.Core.Bool.{true, false, _&&_};
@@ -9,74 +10,75 @@ ghost use lib.Dec.{eqb};
 ghost use lib.ListN.{length, getD, drop, take};
 ghost use lib.Seq.{paste};
 ghost use lib.Bits.{bitXor};
-ghost use Rattle.sequence.specs.Lists.{all, count, headOr};
+ghost use Rattle.sequence.specs.Lists.{all};
+ghost use Rattle.sequence.specs.Wrap.{member};
 ghost use Rattle.xor.specs.Xor.{xorAll, xorPayloads, padded};
 ghost use Rattle.rtp.specs.Length.{wholeUnits};
 ghost use Rattle.window.specs.Store.{payloadIn};
-ghost use Rattle.window.specs.Limits.{mostSide};
+ghost use Rattle.window.specs.Limits.{width, mostSide};
 ghost use Rattle.window.specs.Bounds.{SetUp};
-ghost use Rattle.window.specs.Group.{group, isMissing, missing, present};
+ghost use Rattle.window.specs.declared.Look.the-variants.{One};
+ghost use Rattle.window.specs.Group.{group, isMissing, present};
+ghost use Rattle.window.specs.Look.{look};
 ghost use Rattle.window.specs.Plain.{Inside};
 ghost use Rattle.calls.specs.Content.{longest, numberOver, payloadOver};
-ghost use Rattle.group.specs.Along.{memberAt, along};
+ghost use Rattle.group.specs.Along.{memberAt, along, Next};
 ghost use Rattle.group.specs.Held.{Held};
 ghost use Rattle.group.specs.Tried.{Tried};
 
 // ---- the members that are missing
 
-// How many of na members from SNBase on are missing.
-fn count_along(marks: &[u8], base: u16, snbase: u16, offset: u16, na: usize) -> usize
-    requires { ⌜ (na ≤ mostSide) × ((j : ℕ) → j < na → memberAt base snbase offset j < length (now marks)) ⌝ }
-    ensures { λ r. ⌜ r ≡ count (isMissing (now (marks .entry))) (along base snbase offset na) ⌝ }
+// Member j of the group that starts at SNBase.
+fn member_at(snbase: u16, offset: u16, j: usize) -> u16
+    requires { ⌜ (offset ≤ mostSide) × (j ≤ mostSide) ⌝ }
+    ensures { λ r. ⌜ r ≡ member width snbase offset j ⌝ }
 {
-    let mut number = snbase;
-    let mut zeros: usize = 0;
-    let mut j = 0;
-    while j < na {
-        let i = sequence::position(base, number) as usize;
-        zeros += (marks[i] == 0) as usize;
-        number = sequence::next(number, offset);
-        j += 1;
-    }
-    zeros
+    sequence::next(snbase, j as u16 * offset)
 }
 
-// How many members of a group that lies in the window are missing.
-pub fn count_missing(w: Window, marks: &[u8], stream: u8, snbase: u16) -> usize
-    requires { ⌜ SetUp w × Inside w stream snbase × (w .n ≤ length (now marks)) ⌝ }
-    ensures { λ r. ⌜ r ≡ length (missing (now (marks .entry)) (group w stream snbase)) ⌝ }
+// Visits the members from index `from` on, one after another, up to the first that is missing: its index, or na.
+fn next_missing(marks: &[u8], base: u16, snbase: u16, offset: u16, from: usize, na: usize) -> usize
+    requires { ⌜ (from ≤ na) × (na ≤ mostSide) × (offset ≤ mostSide) × ((j : ℕ) → j < na → memberAt base snbase offset j < length (now marks)) ⌝ }
+    ensures { λ r. ⌜ Next (now (marks .entry)) base snbase offset na from r ⌝ }
 {
-    let offset = rtp::offset_of(stream, w.l) as u16;
-    let na = rtp::na_of(stream, w.l, w.d);
-    count_along(marks, w.base, snbase, offset, na)
-}
-
-// The first of na members from SNBase on that is missing, or 0.
-fn first_along(marks: &[u8], base: u16, snbase: u16, offset: u16, na: usize) -> usize
-    requires { ⌜ (na ≤ mostSide) × ((j : ℕ) → j < na → memberAt base snbase offset j < length (now marks)) ⌝ }
-    ensures { λ r. ⌜ r ≡ headOr 0 (missing (now (marks .entry)) (along base snbase offset na)) ⌝ }
-{
-    let mut number = snbase;
-    let mut j = 0;
+    let mut number = member_at(snbase, offset, from);
+    let mut j = from;
     while j < na {
         let i = sequence::position(base, number) as usize;
         if marks[i] == 0 {
-            return i;
+            return j;
         }
         number = sequence::next(number, offset);
         j += 1;
     }
-    0
+    na
 }
 
-// The first missing position of a group, or 0.
-pub fn first_missing(w: Window, marks: &[u8], stream: u8, snbase: u16) -> usize
+// Looks at na members from SNBase on, in their order; the second that is missing ends it.
+fn look_along(marks: &[u8], base: u16, snbase: u16, offset: u16, na: usize) -> Look
+    requires { ⌜ (na ≤ mostSide) × (offset ≤ mostSide) × ((j : ℕ) → j < na → memberAt base snbase offset j < length (now marks)) ⌝ }
+    ensures { λ r. ⌜ r ≡ look (now (marks .entry)) (along base snbase offset na) ⌝ }
+{
+    let first = next_missing(marks, base, snbase, offset, 0, na);
+    if first == na {
+        return Look::None(na);
+    }
+    let second = next_missing(marks, base, snbase, offset, first + 1, na);
+    if second == na {
+        let number = member_at(snbase, offset, first);
+        return Look::One(sequence::position(base, number) as usize, na);
+    }
+    Look::More(second + 1)
+}
+
+// Whether none, one or more of a group that lies in the window are missing; the look ends at the second.
+pub fn look(w: Window, marks: &[u8], stream: u8, snbase: u16) -> Look
     requires { ⌜ SetUp w × Inside w stream snbase × (w .n ≤ length (now marks)) ⌝ }
-    ensures { λ r. ⌜ r ≡ headOr 0 (missing (now (marks .entry)) (group w stream snbase)) ⌝ }
+    ensures { λ r. ⌜ (r ≡ look (now (marks .entry)) (group w stream snbase)) × ((i v : ℕ) → r ≡ One i v → i < w .n) ⌝ }
 {
     let offset = rtp::offset_of(stream, w.l) as u16;
     let na = rtp::na_of(stream, w.l, w.d);
-    first_along(marks, w.base, snbase, offset, na)
+    look_along(marks, w.base, snbase, offset, na)
 }
 
 // ---- the members that are held

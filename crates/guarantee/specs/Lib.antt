@@ -28,3 +28,4 @@ pub mod Run
 pub mod Theorem
 pub mod Made
 pub mod Budget
+pub mod Counting

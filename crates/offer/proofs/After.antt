@@ -5,7 +5,7 @@ use mathlib.Core.List.{List, [], _∷_}
 use Prim.Native.Nat.{ℕ, _+_, _*_, _-_, _^_, _<_, _≤_}
 use native.Mathlib.Omega.{arith}
 use lib.Dec.{eqb}
-use lib.ListN.{length, getD, set, take, drop, length-set, length-drop}
+use lib.ListN.{length, set, take, drop, length-set, length-drop}
 use lib.Seq.{paste, take-all}
 use borrow.Author.Tests.{eqb-true, not-false}
 use Rattle.answer.specs.declared.Answer.the-variants.{Done}
@@ -26,14 +26,15 @@ use Rattle.calls.specs.Accept.{recoveryOf, firstFree, acceptMedia, takeParity, 
 use Rattle.calls.specs.Rest.{settle-none}
 use Rattle.calls.specs.Call.{begun, settled}
 use Rattle.table.specs.View.{Row, scatter}
-use Rattle.table.specs.Apart.{Fits, alike-scatter, alike-fits}
+use Rattle.table.specs.Apart.{Fits, Alike, alike-scatter, alike-fits}
 use Rattle.table.specs.Hold.{FirstFree, gapFrom}
+use Rattle.table.specs.Sound.{Sound}
 use Rattle.engine.specs.declared.Round.{Round}
-use Rattle.engine.specs.Rows.{LoweredAll}
+use Rattle.engine.specs.Rows.{AgainAll}
 use Rattle.engine.specs.Round.{Parts, over, Serves, Settled}
 use Rattle.engine.proofs.Same.{set-up-same, sound-same}
-use Rattle.engine.proofs.Lowered.{lowered-sound, head-kept}
-use Rattle.engine.proofs.Rounds.{head-below}
+use Rattle.engine.proofs.Again.{again-sound}
+use Rattle.group.specs.Held.{Below}
 use Rattle.group.specs.Tried.{Tried}
 use Rattle.group.proofs.Rows.{kept-below}
 use Rattle.offer.specs.declared.Offered.{Offered}
@@ -61,32 +62,33 @@ abbrev pub plainly : (rebuilt spoilt : ℕ) → Window → Bool → Offered
 plainly rebuilt spoilt v changed = record { answer = Done rebuilt spoilt; window = v; changed = changed; held = false; it = blank }
 
 -- ---- position i becomes present
-module _ (w : Window) (x : Parts) (serves : Serves w x) (i : ℕ) (near : i < w .n) (lacking : getD (x .marks) i 0 ≡ 0) (media timestamps lengths marks : List ℕ) (lm : length media ≡ length (x .media)) (lt : length timestamps ≡ length (x .timestamps)) (ll : length lengths ≡ length (x .lengths))
-    (ek : marks ≡ set (x .marks) i 1) (hs : List Row) (lowered : LoweredAll w i (x .rows) hs) (v : Window) (ev : v ≡ recount w (w .present + 1) (w .«in_use»)) where
+module _ (w : Window) (x : Parts) (media timestamps lengths marks : List ℕ) (hs : List Row) (v : Window) (ev : v ≡ recount w (w .present + 1) (w .«in_use»)) where
   abbrev y : Parts
   y = record { media = media; timestamps = timestamps; lengths = lengths; marks = marks; parity = x .parity; rows = hs }
 
-  pub serves-after : Serves v y
-  serves-after = record {
-    set-up = set-up-same w v (w .present + 1) (w .«in_use») ev (serves .set-up);
-    media-long = rw (ev, lm) (serves .media-long);
-    timestamps-long = rw (ev, lt) (serves .timestamps-long);
-    lengths-long = rw (ev, ll) (serves .lengths-long);
-    marks-long = rw (ev, ek, length-set) (serves .marks-long);
-    parity-long = rw ev (serves .parity-long);
-    sound = sound-same w v (w .present + 1) (w .«in_use») marks hs ev (rw ek (lowered-sound w i (x .marks) (x .rows) hs (omega (arith, near, serves .marks-long)) lacking (serves .sound) lowered));
-  }
+  pub serves-after : Serves w x → (i : ℕ) → length media ≡ length (x .media) → length timestamps ≡ length (x .timestamps) → length lengths ≡ length (x .lengths) → marks ≡ set (x .marks) i 1 → AgainAll v i marks (x .rows) hs → Serves v y
+  serves-after serves i lm lt ll ek again =
+      let was : Sound v (x .marks) (x .rows) = sound-same w v (w .present + 1) (w .«in_use») (x .marks) (x .rows) ev (serves .sound) in
+      record {
+        set-up = set-up-same w v (w .present + 1) (w .«in_use») ev (serves .set-up);
+        media-long = rw (ev, lm) (serves .media-long);
+        timestamps-long = rw (ev, lt) (serves .timestamps-long);
+        lengths-long = rw (ev, ll) (serves .lengths-long);
+        marks-long = rw (ev, ek, length-set) (serves .marks-long);
+        parity-long = rw ev (serves .parity-long);
+        sound = subst (λ (k : List ℕ). Sound v k hs) (sym ek) (again-sound v i (x .marks) (x .rows) hs was (subst (λ (k : List ℕ). AgainAll v i k (x .rows) hs) ek again));
+      }
 
   -- what is settled from there
-  module _ (accept : Store → State) (b q : ℕ) (is : (t : List Record) → Fits t (w .k) (x .rows) → scene v (stored media timestamps lengths marks (x .parity) (scatter (x .rows) t)) b q ≡ accept (over x t)) (r : Offered) (z : Parts) (s : Went v y b q r z) where
+  module _ (alike : Alike hs (x .rows)) (accept : Store → State) (b q : ℕ) (is : (t : List Record) → Fits t (w .k) (x .rows) → scene v (stored media timestamps lengths marks (x .parity) (scatter (x .rows) t)) b q ≡ accept (over x t)) (r : Offered) (z : Parts) (s : Went v y b q r z) where
     pub accepted : Accepted accept (w .k) x r z
     accepted = record {
-      same-slots = s .same-slots ∙ lowered .alike .same-slots;
+      same-slots = s .same-slots ∙ alike .same-slots;
       is = λ t f.
-          let fits : Fits t (v .k) hs = rw ev (alike-fits (lowered .alike) f) in
-          let begins : scene v (over y t) b q ≡ accept (over x t) = ap (λ (u : List Record). scene v (stored media timestamps lengths marks (x .parity) u) b q) (alike-scatter (lowered .alike) t) ∙ is t f in
+          let fits : Fits t (v .k) hs = rw ev (alike-fits alike f) in
+          let begins : scene v (over y t) b q ≡ accept (over x t) = ap (λ (u : List Record). scene v (stored media timestamps lengths marks (x .parity) u) b q) (alike-scatter alike t) ∙ is t f in
           s .is t fits ∙ ap settled begins;
-      still = λ e t. s .still e t ∙ alike-scatter (lowered .alike) t;
+      still = λ e t. s .still e t ∙ alike-scatter alike t;
       low = λ e. absurd (let o : _≡_ {A = Bool} true false = sym e ∙ s .free in let u : _≡_ {A = ℕ} 0 1 = cc in omega arith);
     }
 
@@ -127,7 +129,7 @@ read-is p g stamps sizes es el = rw (es, el, rest-is parityHeaderSize g, length-
 
 -- the packet that a parity datagram was to rebuild
 module _ (w : Window) (stream : ℕ) (g : List ℕ) (x : Parts) (i b stamps sizes : ℕ) (ok : Bool) (media timestamps lengths marks : List ℕ)
-    (eb : b ≡ snbase g) (ei : i ≡ headOr 0 (missing (x .marks) (group w stream b))) (es : stamps ≡ timestampRecovery g) (el : sizes ≡ lengthRecovery g) (one : length (missing (x .marks) (group w stream (snbase g))) ≡ 1)
+    (eb : b ≡ snbase g) (es : stamps ≡ timestampRecovery g) (el : sizes ≡ lengthRecovery g) (one : missing (x .marks) (group w stream (snbase g)) ≡ i ∷ [])
     (told : Tried w (group w stream b) i (read (w .p) g stamps sizes) ok (x .media) (x .timestamps) (x .lengths) (x .marks) media timestamps lengths marks) where
   tried : Tried w (group w stream (snbase g)) i (recoveryOf (w .p) g) ok (x .media) (x .timestamps) (x .lengths) (x .marks) media timestamps lengths marks
   tried =
@@ -136,9 +138,9 @@ module _ (w : Window) (stream : ℕ) (g : List ℕ) (x : Parts) (i b stamps size
 
   taken-as : (t : List Record) → acceptParity stream g (begun w (over x t)) ≡ cond ok (rebuild (group w stream (snbase g)) (recoveryOf (w .p) g .content) i (begun w (over x t))) (countSpoilt (begun w (over x t)))
   taken-as t =
-      take-one stream (snbase g) (recoveryOf (w .p) g) (begun w (over x t)) (missing (x .marks) (group w stream (snbase g))) one
+      take-one stream (snbase g) (recoveryOf (w .p) g) (begun w (over x t)) (missing (x .marks) (group w stream (snbase g))) (ap length one)
       ∙ ap (λ (f : Bool). cond f (rebuild (group w stream (snbase g)) (recoveryOf (w .p) g .content) (headOr 0 (missing (x .marks) (group w stream (snbase g)))) (begun w (over x t))) (countSpoilt (begun w (over x t)))) (sym (tried .fit))
-      ∙ ap (λ (n : ℕ). cond ok (rebuild (group w stream (snbase g)) (recoveryOf (w .p) g .content) n (begun w (over x t))) (countSpoilt (begun w (over x t)))) (sym (ei ∙ ap (λ (n : ℕ). headOr 0 (missing (x .marks) (group w stream n))) eb))
+      ∙ ap (λ (n : ℕ). cond ok (rebuild (group w stream (snbase g)) (recoveryOf (w .p) g .content) n (begun w (over x t))) (countSpoilt (begun w (over x t)))) (ap (headOr 0) one)
 
   -- it is rebuilt
   pub last-is : ok ≡ true → (v : Window) → v ≡ recount w (w .present + 1) (w .«in_use») → (t : List Record) → scene v (stored media timestamps lengths marks (x .parity) (scatter (x .rows) t)) 1 0 ≡ acceptParity stream g (begun w (over x t))
@@ -171,14 +173,9 @@ module _ (w : Window) (stream : ℕ) (g : List ℕ) (x : Parts) (i b stamps size
         low = λ e. absurd (let o : _≡_ {A = Bool} true false = sym e ∙ s .free in let u : _≡_ {A = ℕ} 0 1 = cc in omega arith);
       }
 
--- the one packet missing of an offered parity packet's group
-pub last-here : (w : Window) → w .base < 2 ^ width → (x : Parts) → Serves w x → (stream : ℕ) (g : List ℕ) → Inside w stream (snbase g) → length (missing (x .marks) (group w stream (snbase g))) ≡ 1
-    → (b : ℕ) → b ≡ snbase g → (i : ℕ) → i ≡ headOr 0 (missing (x .marks) (group w stream b)) → (i < w .n) × (getD (x .marks) i 0 ≡ 0)
-last-here w based x serves stream g near one b eb i ei =
-    let e : i ≡ headOr 0 (missing (x .marks) (group w stream (snbase g))) = ei ∙ ap (λ (n : ℕ). headOr 0 (missing (x .marks) (group w stream n))) eb in (
-      rw e (head-below (w .n) (missing (x .marks) (group w stream (snbase g))) (kept-below w based (serves .set-up) stream (snbase g) near (isMissing (x .marks))) one),
-      eqb-true (getD (x .marks) i 0) 0 (rw e (head-kept (isMissing (x .marks)) (group w stream (snbase g)) one)),
-    )
+-- the one packet missing of an offered parity packet's group lies in the window
+pub last-here : (w : Window) → w .base < 2 ^ width → (x : Parts) → Serves w x → (stream : ℕ) (g : List ℕ) → Inside w stream (snbase g) → (i : ℕ) → missing (x .marks) (group w stream (snbase g)) ≡ i ∷ [] → i < w .n
+last-here w based x serves stream g near i one = subst (Below (w .n)) one (kept-below w based (serves .set-up) stream (snbase g) near (isMissing (x .marks))) .0
 
 -- the first free record, where the hand is all of the rows
 pub free-is : (hs : List Row) (m : ℕ) → length hs ≡ m → (r : ℕ) → FirstFree m (take m hs) r → r ≡ gapFrom 0 hs

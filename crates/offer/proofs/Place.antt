@@ -12,12 +12,15 @@ use Rattle.xor.specs.Same.{same}
 use Rattle.sequence.specs.Lists.{upTo, any}
 use Rattle.rtp.specs.Rtp.{rtpHeaderSize, sequenceNumber, timestamp}
 use Rattle.rtp.specs.Fec.{snbase}
+use Rattle.window.specs.declared.Look.{Look}
+use Rattle.window.specs.declared.Look.the-variants.{None}
 use Rattle.window.specs.declared.Record.{Record}
 use Rattle.window.specs.declared.Window.{Window}
 use Rattle.window.specs.Limits.{width, leastMissing}
 use Rattle.window.specs.Store.{Store, stored, timestampAt, lengthAt}
 use Rattle.window.specs.Bounds.{SetUp}
 use Rattle.window.specs.Group.{position, group, inside, isMissing, missing}
+use Rattle.window.specs.Look.{look, atLeast, waits-is}
 use Rattle.window.specs.Plain.{Inside, inside-of}
 use Rattle.calls.specs.Call.{mediaPlaceTests, parityPlaceTests, sameContent, contentAt, holds, holdsSame}
 use Rattle.calls.specs.Accept.{contentOf}
@@ -84,10 +87,10 @@ module _ (w : Window) (stream : ℕ) (g marks parity : List ℕ) (hs : List Row)
 
   -- a number that refuses
   abbrev no : ℕ → Placed
-  no n = record { fault = n; missing = 0 }
+  no n = record { fault = n; found = None 0 }
 
   refuses : (n : ℕ) → (n ≡ 0 → ⊥) → ((media timestamps lengths : List ℕ) (t : List Record) → Fits t (w .k) hs → n ≡ first (tests media timestamps lengths t)) → Found w stream g marks parity hs (no n)
-  refuses n h is = record { is = is; inside = λ z. absurd (h z); counted = λ z. absurd (h z); room = λ z. absurd (h z) }
+  refuses n h is = record { is = is; inside = λ z. absurd (h z); looked = λ z. absurd (h z); room = λ z. absurd (h z) }
 
   pub no-13 : inside w stream b ≡ false → Found w stream g marks parity hs (no 13)
   no-13 e = refuses 13 (λ z. omega arith) (λ media timestamps lengths t f. first-hit 13 _ _ (ap (λ (n : ℕ). not (inside w stream n)) (sym eb) ∙ ap not e))
@@ -112,25 +115,25 @@ module _ (w : Window) (stream : ℕ) (g marks parity : List ℕ) (hs : List Row)
       pub no-15 : held ≡ true → Found w stream g marks parity hs (no 15)
       no-15 e = refuses 15 (λ z. omega arith) (λ media timestamps lengths t f. beyond-14 media timestamps lengths t f 15 (first-hit 15 _ _ (held-is media timestamps lengths t f ∙ e)))
 
-      module _ (new : held ≡ false) (lacks : ℕ) (el : lacks ≡ length (missing marks (group w stream b))) where
+      module _ (new : held ≡ false) (seen : Look) (el : seen ≡ look marks (group w stream b)) (waits : Bool) (ew : waits ≡ leb leastMissing (atLeast seen)) where
         beyond-15 : (media timestamps lengths : List ℕ) (t : List Record) → Fits t (w .k) hs → (r : ℕ) → r ≡ first (drop 3 (tests media timestamps lengths t)) → r ≡ first (tests media timestamps lengths t)
         beyond-15 media timestamps lengths t f r k = beyond-14 media timestamps lengths t f r (first-past r 15 _ _ (held-is media timestamps lengths t f ∙ new) k)
 
-        lacks-is : length (missing marks (group w stream (snbase g))) ≡ lacks
-        lacks-is = ap (λ (n : ℕ). length (missing marks (group w stream n))) (sym eb) ∙ sym el
+        seen-is : seen ≡ look marks (group w stream (snbase g))
+        seen-is = el ∙ ap (λ (n : ℕ). look marks (group w stream n)) eb
 
-        full-is : (leb leastMissing (length (missing marks (group w stream (snbase g)))) && not (ltb (w .«in_use») (w .k))) ≡ (leb leastMissing lacks && not (ltb (w .«in_use») (w .k)))
-        full-is = ap (λ (n : ℕ). leb leastMissing n && not (ltb (w .«in_use») (w .k))) lacks-is
+        full-is : (leb leastMissing (length (missing marks (group w stream (snbase g)))) && not (ltb (w .«in_use») (w .k))) ≡ (waits && not (ltb (w .«in_use») (w .k)))
+        full-is = ap (λ (t : Bool). t && not (ltb (w .«in_use») (w .k))) (sym (ew ∙ ap (λ (f : Look). leb leastMissing (atLeast f)) seen-is ∙ waits-is marks (group w stream (snbase g))))
 
-        pub no-16 : (leb leastMissing lacks && not (ltb (w .«in_use») (w .k))) ≡ true → Found w stream g marks parity hs (no 16)
+        pub no-16 : (waits && not (ltb (w .«in_use») (w .k))) ≡ true → Found w stream g marks parity hs (no 16)
         no-16 e = refuses 16 (λ z. omega arith) (λ media timestamps lengths t f. beyond-15 media timestamps lengths t f 16 (first-hit 16 _ _ (full-is ∙ e)))
 
-        pub none-of-them : w .base < 2 ^ width → SetUp w → (leb leastMissing lacks && not (ltb (w .«in_use») (w .k))) ≡ false → Found w stream g marks parity hs (record { fault = 0; missing = lacks })
+        pub none-of-them : w .base < 2 ^ width → SetUp w → (waits && not (ltb (w .«in_use») (w .k))) ≡ false → Found w stream g marks parity hs (record { fault = 0; found = seen })
         none-of-them based u e = record {
           is = λ media timestamps lengths t f. beyond-15 media timestamps lengths t f 0 (first-past 0 16 _ _ (full-is ∙ e) first-end);
           inside = λ _. inside-of w based u stream (snbase g) (ap (inside w stream) (sym eb) ∙ i);
-          counted = λ _. sym lacks-is;
-          room = λ _ l. ltb-true (w .«in_use») (w .k) (not-false (ltb (w .«in_use») (w .k)) (past (leb leastMissing lacks) (not (ltb (w .«in_use») (w .k))) (le-leb leastMissing lacks l) e));
+          looked = λ _. seen-is;
+          room = λ _ l. ltb-true (w .«in_use») (w .k) (not-false (ltb (w .«in_use») (w .k)) (past waits (not (ltb (w .«in_use») (w .k))) (ew ∙ le-leb leastMissing (atLeast seen) l) e));
         }
           where
             past : (a b : Bool) → a ≡ true → (a && b) ≡ false → b ≡ false

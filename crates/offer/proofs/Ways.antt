@@ -1,7 +1,7 @@
 -- The ways through an offer. Assumes nothing.
 use mathlib.Core.Path.{_≡_, refl, sym, ap, subst, _∙_}
 use mathlib.Core.Bool.{Bool, true, false, cond}
-use mathlib.Core.List.{List, _++_}
+use mathlib.Core.List.{List, [], _++_}
 use Prim.Native.Nat.{ℕ, _+_, _*_, _<_, _≤_}
 use native.Mathlib.Omega.{arith}
 use lib.ListN.{length, set, getD}
@@ -42,7 +42,7 @@ no n w = record { answer = Refused n; window = w; changed = false; held = false;
 abbrev pub sizesBy : Parts → ℕ → Sizes
 sizesBy x len = record { media = length (x .media); timestamps = length (x .timestamps); lengths = length (x .lengths); marks = length (x .marks); parity = length (x .parity); records = len }
 
--- ---- behind the test of order: the hand has its missing counts
+-- ---- behind the test of order: the hand has its notes
 module _ (w : Window) (x : Parts) (len : ℕ) (hs : List Row) (z : ℕ) (stood : Stood w (sizesBy x len) false (x .lengths) (x .marks) (x .rows) hs z) where
   -- the parts with the hand as it is then
   abbrev noted : Parts
@@ -133,7 +133,7 @@ module _ (w : Window) (x : Parts) (len : ℕ) (hs : List Row) (z : ℕ) (stood :
         pub parity-placed : (q ≡ 0 → ⊥) → Offer (offeredParity stream w g) (w .k) len x (no q w) noted
         parity-placed h = refuses (offeredParity stream w g) q (λ t e k. parity-refused w g (over x t) stream q (placed t e k) h)
 
-        module _ (none : q ≡ 0) (lacks : ℕ) (el : lacks ≡ length (missing (x .marks) (group w stream (snbase g)))) where
+        module _ (none : q ≡ 0) where
           takes : (t : List Record) → length t ≡ len → Taken t (w .k) (x .rows) → settled (acceptParity stream g (begun w (over x t))) ≡ offeredParity stream w g (over x t)
           takes t e k = parity-taken w g (over x t) stream (sym none ∙ placed t e k)
 
@@ -141,22 +141,22 @@ module _ (w : Window) (x : Parts) (len : ℕ) (hs : List Row) (z : ℕ) (stood :
           parity-accepted r v a = accepts zero (offeredParity stream w g) (λ s. acceptParity stream g (begun w s)) r v a takes
 
           -- none is missing: the store is at rest
-          pub parity-spent : lacks ≡ 0 → Offer (offeredParity stream w g) (w .k) len x (plainly 0 0 w false) noted
+          pub parity-spent : missing (x .marks) (group w stream (snbase g)) ≡ [] → Offer (offeredParity stream w g) (w .k) len x (plainly 0 0 w false) noted
           parity-spent h = record {
             same-slots = stood .alike .same-slots;
             is = λ t e k.
                 let o = order-now zero t e k in
                 let rests : settle (acceptParity stream g (begun w (over noted t))) ≡ scene w (over noted t) 0 0 =
-                ap settle (take-none stream (snbase g) (recoveryOf (w .p) g) (begun w (over noted t)) (missing (x .marks) (group w stream (snbase g))) (sym el ∙ h)) ∙ order-rest w (over noted t) o 0 0 in
+                ap settle (take-none stream (snbase g) (recoveryOf (w .p) g) (begun w (over noted t)) (missing (x .marks) (group w stream (snbase g))) (ap length h)) ∙ order-rest w (over noted t) o 0 0 in
                 ap (λ (u : State). record { answer = Done (u .rebuilt) (u .spoilt); window = u .window; store = u .store }) (sym rests) ∙ ap (λ (s : Store). settled (acceptParity stream g (begun w s))) (over-same t) ∙ takes t e k;
             still = λ _ t. alike-scatter (stood .alike) t;
             low = λ e. absurd (let v : _≡_ {A = ℕ} 0 1 = cc in omega arith);
           }
 
           -- enough are missing: it is held, and the store is at rest
-          pub parity-held : leastMissing ≤ lacks → w .«in_use» < w .k → (r : Offered) (parity : List ℕ) → Kept w stream g (x .parity) hs r parity
+          pub parity-held : leastMissing ≤ length (missing (x .marks) (group w stream (snbase g))) → w .«in_use» < w .k → (r : Offered) (parity : List ℕ) → Kept w stream g (x .parity) hs r parity
               → Offer (offeredParity stream w g) (w .k) len x r (record { media = x .media; timestamps = x .timestamps; lengths = x .lengths; marks = x .marks; parity = parity; rows = hs })
-          parity-held many room r parity a = record {
+          parity-held lacking room r parity a = record {
             same-slots = stood .alike .same-slots;
             is = λ t e k. held t e k ∙ ap (λ (s : Store). settled (acceptParity stream g (begun w s))) (over-same t) ∙ takes t e k;
             still = λ c. absurd (let v : _≡_ {A = Bool} true false = sym (a .changes) ∙ c in let u : _≡_ {A = ℕ} 0 1 = cc in omega arith);
@@ -172,7 +172,6 @@ module _ (w : Window) (x : Parts) (len : ℕ) (hs : List Row) (z : ℕ) (stood :
                   let o = order-now zero t e k in
                   let s = over noted t in
                   let gap : firstFree w s ≡ gapFrom 0 hs = first-free-rows hs (f .apart) (f .enough) in
-                  let lacking : leastMissing ≤ length (missing (x .marks) (group w stream (snbase g))) = omega (arith, many, el) in
                   let near : firstFree w s < length (scatter hs t) = omega (arith, gap, stands zero .free-low room, f .enough, length-scatter hs t) in
                   let rests : settle (acceptParity stream g (begun w s)) ≡ hold (firstFree w s) stream (snbase g) (recoveryOf (w .p) g) (begun w s) =
                   ap settle (take-more stream (snbase g) (recoveryOf (w .p) g) (begun w s) (missing (x .marks) (group w stream (snbase g))) (omega (arith, lacking))) ∙ held-rest w s o (firstFree w s) stream (snbase g) (recoveryOf (w .p) g) 0 0 lacking near in

@@ -11,7 +11,8 @@ use Rattle.window.specs.declared.Record.{Record}
 use Rattle.window.specs.declared.Window.{Window}
 use Rattle.window.specs.Limits.{leastMissing}
 use Rattle.window.specs.Store.{stored, payloadIn}
-use Rattle.window.specs.Group.{group, missing}
+use Rattle.window.specs.Group.{group}
+use Rattle.window.specs.Look.{look, atLeast}
 use Rattle.window.specs.Order.{used}
 use Rattle.window.specs.Plain.{Inside}
 use Rattle.calls.specs.Accept.{recoveryOf}
@@ -48,5 +49,5 @@ rowSame p parity hs stream g i =
 pub record Found (w : Window) (stream : ℕ) (g marks parity : List ℕ) (hs : List Row) (r : Placed) : Type 0 where
   pub is : (media timestamps lengths : List ℕ) (t : List Record) → Fits t (w .k) hs → r .fault ≡ first (parityPlaceTests w stream g (stored media timestamps lengths marks parity (scatter hs t)))
   pub inside : r .fault ≡ 0 → Inside w stream (snbase g)
-  pub counted : r .fault ≡ 0 → r .missing ≡ length (missing marks (group w stream (snbase g)))
-  pub room : r .fault ≡ 0 → leastMissing ≤ r .missing → w .«in_use» < w .k
+  pub looked : r .fault ≡ 0 → r .found ≡ look marks (group w stream (snbase g))
+  pub room : r .fault ≡ 0 → leastMissing ≤ atLeast (r .found) → w .«in_use» < w .k

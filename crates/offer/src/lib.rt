@@ -1,12 +1,13 @@
 // Offers: a media or a parity datagram taken in, or refused, over the rows of a hand.
 use answer::Answer;
 use engine::Round;
+use window::Look;
 use window::Record;
 use window::Sizes;
 use window::Window;
 ghost use mathlib.Core.Path.{_≡_};
-ghost use mathlib.Core.Bool.{true, false, not};
-ghost use mathlib.Core.List.{List};
+ghost use mathlib.Core.Bool.{true, false};
+ghost use mathlib.Core.List.{List, [], _∷_};
 ghost use Prim.Native.Nat.{ℕ, _+_, _*_, _≤_, _<_};
 ghost use lib.ListN.{length, getD};
 ghost use Rattle.answer.specs.declared.Answer.the-variants.{Done, Refused};
@@ -16,7 +17,8 @@ ghost use Rattle.rtp.specs.Rtp.{rtpHeaderSize, sequenceNumber};
 ghost use Rattle.rtp.specs.Fec.{parityHeaderSize};
 ghost use Rattle.rtp.specs.Fec as fec;
 ghost use Rattle.window.specs.declared.Record.{Record};
-ghost use Rattle.window.specs.Limits.{leastMissing, mostRecords, mostCounted};
+ghost use Rattle.window.specs.declared.Look.the-variants.{None};
+ghost use Rattle.window.specs.Limits.{mostRecords, mostCounted};
 ghost use Rattle.window.specs.Record.{blank};
 ghost use Rattle.window.specs.Store.{stored};
 ghost use Rattle.window.specs.Bounds.{SetUp};
@@ -181,11 +183,11 @@ fn accept_media(
     timestamps[i] = rtp::timestamp(datagram);
     lengths[i] = size as u16;
     marks[i] = 1;
-    engine::lower(w, i, rows, m);
     if w.in_use == 0 {
         return taken(engine::recounted(w, w.present + 1, w.in_use), 0, 0, false);
     }
     let v = engine::recounted(w, w.present + 1, w.in_use);
+    engine::look_again(v, i, marks, rows, m);
     go_on(v, 0, 0, media, timestamps, lengths, marks, parity, rows, m)
 }
 
@@ -251,17 +253,20 @@ fn any_same(w: Window, stream: u8, datagram: &[u8], parity: &[u8], rows: &[u32],
     found
 }
 
-// The first of refusals 13 to 16 that applies to a parity datagram, or 0, and how many of its group are missing.
+// The first of refusals 13 to 16 that applies to a parity datagram, or 0, and what a look at its group finds.
 pub struct Placed {
     pub fault: u8,
-    pub missing: usize,
+    pub found: Look,
 }
 
 // A refusal by its number.
 fn refused_place(fault: u8) -> Placed
-    ensures { λ r. ⌜ r ≡ record { fault = fault; missing = 0 } ⌝ }
+    ensures { λ r. ⌜ r ≡ record { fault = fault; found = None 0 } ⌝ }
 {
-    Placed { fault, missing: 0 }
+    Placed {
+        fault,
+        found: Look::None(0),
+    }
 }
 
 fn parity_place_fault(
@@ -286,17 +291,19 @@ fn parity_place_fault(
     if any_holds(rows, m, stream, snbase) {
         return refused_place(15);
     }
-    let missing = group::count_missing(w, marks, stream, snbase);
-    if (window::LEAST_MISSING <= missing) & !(w.in_use < w.k) {
+    let found = group::look(w, marks, stream, snbase);
+    if window::waits(found) & !(w.in_use < w.k) {
         return refused_place(16);
     }
-    Placed { fault: 0, missing }
+    Placed { fault: 0, found }
 }
 
-// A parity packet that finds one packet missing rebuilds it, and what that makes ready rebuilds; or it is spoilt, and is not held.
+// A parity packet that finds one packet missing, at position i, rebuilds it, and what that makes ready rebuilds; or it is spoilt, and
+// is not held.
 fn accept_last(
     w: Window,
     stream: u8,
+    i: usize,
     datagram: &[u8],
     media: &mut [u8],
     timestamps: &mut [u32],
@@ -307,13 +314,12 @@ fn accept_last(
     m: usize,
 ) -> Offered
     requires { ⌜ Serves w (record { media = now media; timestamps = now timestamps; lengths = now lengths; marks = now marks; parity = now parity; rows = hand (now rows) }) × (length (hand (now rows)) ≡ m) × Fitting parityHeaderSize (w .p) (now datagram)
-        × Inside w stream (fec.snbase (now datagram)) × (length (missing (now marks) (group w stream (fec.snbase (now datagram)))) ≡ 1) × (w .present ≤ w .n) × (w .«in_use» ≤ mostRecords) ⌝ }
+        × Inside w stream (fec.snbase (now datagram)) × (missing (now marks) (group w stream (fec.snbase (now datagram))) ≡ i ∷ []) × (w .present ≤ w .n) × (w .«in_use» ≤ mostRecords) ⌝ }
     ensures { λ r. ⌜ Accepted (λ s. acceptParity stream (now (datagram .entry)) (begun w s)) (w .k) (record { media = now (media .entry); timestamps = now (timestamps .entry); lengths = now (lengths .entry); marks = now (marks .entry); parity = now (parity .entry); rows = hand (now (rows .entry)) }) r
         (record { media = now (media .exit); timestamps = now (timestamps .exit); lengths = now (lengths .exit); marks = now (marks .exit); parity = now (parity .exit); rows = hand (now (rows .exit)) }) ⌝ }
 {
     let snbase = rtp::snbase(datagram);
     let recovery = rtp::timestamp_recovery(datagram);
-    let i = group::first_missing(w, marks, stream, snbase);
     let good = group::rebuild_at(
         w,
         stream,
@@ -332,8 +338,8 @@ fn accept_last(
     if !good {
         return go_on(w, 0, 1, media, timestamps, lengths, marks, parity, rows, m);
     }
-    engine::lower(w, i, rows, m);
     let v = engine::recounted(w, w.present + 1, w.in_use);
+    engine::look_again(v, i, marks, rows, m);
     go_on(v, 1, 0, media, timestamps, lengths, marks, parity, rows, m)
 }
 
@@ -444,13 +450,13 @@ pub fn offer_parity(
     if place.fault != 0 {
         return refused(w, place.fault);
     }
-    if place.missing == 0 {
-        return taken(w, 0, 0, false);
-    }
-    if place.missing == 1 {
-        return accept_last(
+    let found = place.found;
+    match found {
+        Look::None(_) => taken(w, 0, 0, false),
+        Look::One(i, _) => accept_last(
             w,
             stream,
+            i,
             datagram,
             media,
             timestamps,
@@ -459,7 +465,7 @@ pub fn offer_parity(
             parity,
             rows,
             m,
-        );
+        ),
+        Look::More(_) => accept_held(w, stream, datagram, parity, rows, m),
     }
-    accept_held(w, stream, datagram, parity, rows, m)
 }

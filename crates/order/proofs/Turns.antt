@@ -1,4 +1,4 @@
--- A turn of the loop over the rows, which notes a missing count, and what is known when it ends. Assumes nothing.
+-- A turn of the loop over the rows, which makes a note, and what is known when it ends. Assumes nothing.
 use mathlib.Core.Path.{_≡_, refl, sym, ap, subst, _∙_}
 use mathlib.Core.Bool.{Bool, true, false, cond, _&&_}
 use mathlib.Core.List.{List}
@@ -12,8 +12,8 @@ use Rattle.sequence.specs.Lists.{upTo, all, count, and-split, all-more, count-m
 use Rattle.window.specs.declared.Record.{Record}
 use Rattle.window.specs.declared.Window.{Window}
 use Rattle.window.specs.Order.{used}
-use Rattle.table.specs.View.{Row, nobody, slotAt, itAt, putMissing}
-use Rattle.table.specs.Apart.{Alike, alike-refl, alike-trans, alike-missing, alike-it, alike-length}
+use Rattle.table.specs.View.{Row, nobody, slotAt, itAt, putNote}
+use Rattle.table.specs.Apart.{Alike, alike-refl, alike-trans, alike-note, alike-it, alike-length}
 use Rattle.table.specs.Sound.{Sound, SoundRow}
 use Rattle.order.specs.Rows.{rowGood}
 use Rattle.order.proofs.Agree.{count-most}
@@ -58,26 +58,26 @@ module _ (w : Window) (marks : List ℕ) (hs : List Row) where
       pub few-turned : n + m ≤ i + 1
       few-turned = omega (arith, t .in-use, count-most (λ j. used (itAt hs j)) i, told .1, flag-most (used (itAt gs i)))
 
-      -- the row with its missing count noted
+      -- the row with its note
       abbrev here : Row
-      here = record { slot = slotAt gs i; missing = c; it = itAt gs i }
+      here = record { slot = slotAt gs i; note = c; it = itAt gs i }
 
       -- what is noted at each row so far
-      noted-more : i < length gs → (good && more) ≡ true → (j : ℕ) → j < i + 1 → Right w marks (getD (putMissing gs i c) j nobody)
+      noted-more : i < length gs → (good && more) ≡ true → (j : ℕ) → j < i + 1 → Right w marks (getD (putNote gs i c) j nobody)
       noted-more l g j h =
           let s = and-split good more g in
           ⊎-elim
-          (λ (q : j ≡ i). subst (λ (k : ℕ). Right w marks (getD (putMissing gs i c) k nobody)) (sym q) (subst (Right w marks) (sym (getD-set-same gs i here nobody l)) (told .3 (s .1))))
+          (λ (q : j ≡ i). subst (λ (k : ℕ). Right w marks (getD (putNote gs i c) k nobody)) (sym q) (subst (Right w marks) (sym (getD-set-same gs i here nobody l)) (told .3 (s .1))))
           (λ (q : j < i). subst (Right w marks) (sym (getD-set-other gs i j here nobody (λ e. omega arith))) (t .noted (s .0) j q))
           (below-or i j h)
 
       -- a turn
-      pub turned : i < length gs → (gs′ : List Row) → gs′ ≡ putMissing gs i c → Turned w marks hs gs′ (good && more) (n + m) (i + 1)
+      pub turned : i < length gs → (gs′ : List Row) → gs′ ≡ putNote gs i c → Turned w marks hs gs′ (good && more) (n + m) (i + 1)
       turned l gs′ e =
           rw e
           (record {
             all-good = (ap (λ (b : Bool). b && more) (t .all-good) ∙ ap (λ (b : Bool). all (rowGood w marks hs) (upTo i) && b) (told .0 ∙ good-alike (t .alike) w marks i)) ∙ sym (all-more (rowGood w marks hs) i);
             in-use = (ap (λ (k : ℕ). k + m) (t .in-use) ∙ ap (λ (k : ℕ). count (λ j. used (itAt hs j)) (upTo i) + k) (told .1 ∙ ap (λ (v : Record). cond (used v) 1 0) (alike-it (t .alike) i))) ∙ sym (count-more (λ j. used (itAt hs j)) i);
-            alike = alike-trans (alike-missing gs i c) (t .alike);
+            alike = alike-trans (alike-note gs i c) (t .alike);
             noted = noted-more l;
           })

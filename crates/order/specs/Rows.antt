@@ -42,7 +42,7 @@ rowGood w marks hs i = cond (eqb (itAt hs i .«in_use») 0) true (usedGood w mar
 abbrev pub seenAt : List Row → ℕ → ℕ
 seenAt hs i = itAt hs i .snbase % 512
 
--- what the test of order says, and leaves of the hand: missing counts and nothing else
+-- what the test of order says, and leaves of the hand: notes and nothing else
 pub record Ordered (w : Window) (lengths marks : List ℕ) (hs hs′ : List Row) (good : Bool) : Type 0 where
   pub alike : Alike hs′ hs
   pub is : (media timestamps parity : List ℕ) (t : List Record) → Fits t (w .k) hs → good ≡ not (disorder w (stored media timestamps lengths marks parity (scatter hs t)))

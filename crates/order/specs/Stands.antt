@@ -42,7 +42,7 @@ pub record Stands (w : Window) (z : Sizes) (short : Bool) (lengths marks : List 
   pub few-used : w .«in_use» ≤ length hs
   pub free-low : w .«in_use» < w .k → gapFrom 0 hs < w .k
 
--- the first of refusals 1 to 5 that applies, or 0, and what it leaves of the hand: missing counts and nothing else
+-- the first of refusals 1 to 5 that applies, or 0, and what it leaves of the hand: notes and nothing else
 pub record Stood (w : Window) (z : Sizes) (short : Bool) (lengths marks : List ℕ) (hs hs′ : List Row) (fault : ℕ) : Type 0 where
   pub alike : Alike hs′ hs
   pub is : (media timestamps parity : List ℕ) (t : List Record) → z ≡ sizesOf (stored media timestamps lengths marks parity (scatter hs t)) → Taken t (w .k) hs

@@ -1,5 +1,5 @@
 // Whether a window value and the store that it is lent are in order: refusals 1 to 5, which every call but opening meets first.
-// The records are looked at once, in the rows of a hand; how many of each row's group are missing is noted there.
+// The records are looked at once, in the rows of a hand; whether none, one or more of each row's group are missing is noted there.
 use window::Record;
 use window::Sizes;
 use window::Window;
@@ -37,36 +37,36 @@ fn repeats(rows: &[u32], i: usize, v: Record, fresh: bool) -> bool
     found
 }
 
-// What the test of order finds at a row: whether it is free or good, 1 if it is in use, and how many of its group are missing.
+// What the test of order finds at a row: whether it is free or good, 1 if it is in use, and the note of a look at its group.
 pub struct Looked {
     pub good: bool,
     pub used: usize,
-    pub missing: usize,
+    pub note: usize,
 }
 
 // A row in use that is not good.
 fn bad(used: usize) -> Looked
-    ensures { λ r. ⌜ r ≡ record { good = false; used = used; missing = 0 } ⌝ }
+    ensures { λ r. ⌜ r ≡ record { good = false; used = used; note = 0 } ⌝ }
 {
     Looked {
         good: false,
         used,
-        missing: 0,
+        note: 0,
     }
 }
 
-// Looks at row i; the missing of its group are counted here and nowhere else. `fresh` says that no row before it names its group.
+// Looks at row i. `fresh` says that no row before it names its group.
 fn look_at(w: Window, marks: &[u8], rows: &[u32], i: usize, fresh: bool) -> Looked
     requires { ⌜ SetUp w × (w .n ≤ length (now marks)) × (i < length (hand (now rows))) × (fresh ≡ true → any (names (hand (now rows)) (itAt (hand (now rows)) i)) (upTo i) ≡ false) ⌝ }
-    ensures { λ r. ⌜ (r .good ≡ rowGood w (now (marks .entry)) (hand (now (rows .entry))) i) × (r .used ≡ cond (used (itAt (hand (now (rows .entry))) i)) 1 0) × (r .missing < 65536)
-        × (r .good ≡ true → used (itAt (hand (now (rows .entry))) i) ≡ true → SoundRow w (now (marks .entry)) (record { slot = slotAt (hand (now (rows .entry))) i; missing = r .missing; it = itAt (hand (now (rows .entry))) i })) ⌝ }
+    ensures { λ r. ⌜ (r .good ≡ rowGood w (now (marks .entry)) (hand (now (rows .entry))) i) × (r .used ≡ cond (used (itAt (hand (now (rows .entry))) i)) 1 0) × (r .note < 65536)
+        × (r .good ≡ true → used (itAt (hand (now (rows .entry))) i) ≡ true → SoundRow w (now (marks .entry)) (record { slot = slotAt (hand (now (rows .entry))) i; note = r .note; it = itAt (hand (now (rows .entry))) i })) ⌝ }
 {
     let v = table::record_at(rows, i);
     if v.in_use == 0 {
         return Looked {
             good: true,
             used: 0,
-            missing: 0,
+            note: 0,
         };
     }
     if v.in_use != 1 {
@@ -84,11 +84,11 @@ fn look_at(w: Window, marks: &[u8], rows: &[u32], i: usize, fresh: bool) -> Look
     if repeats(rows, i, v, fresh) {
         return bad(1);
     }
-    let missing = group::count_missing(w, marks, v.stream, v.snbase);
+    let found = group::look(w, marks, v.stream, v.snbase);
     Looked {
-        good: window::LEAST_MISSING <= missing,
+        good: window::waits(found),
         used: 1,
-        missing,
+        note: table::note_of(found),
     }
 }
 
@@ -108,7 +108,7 @@ fn seen_at(rows: &[u32], i: usize) -> usize
     (v.snbase % 512) as usize
 }
 
-// Looks at every row, and notes the missing.
+// Looks at every row, and notes what it finds.
 fn rows_good(w: Window, marks: &[u8], rows: &mut [u32], m: usize) -> Found
     requires { ⌜ SetUp w × (w .n ≤ length (now marks)) × (length (hand (now rows)) ≡ m) ⌝ }
     ensures { λ r. ⌜ (r .good ≡ all (rowGood w (now (marks .entry)) (hand (now (rows .entry)))) (upTo m)) × (r .used ≡ count (λ i. used (itAt (hand (now (rows .entry))) i)) (upTo m))
@@ -128,7 +128,7 @@ fn rows_good(w: Window, marks: &[u8], rows: &mut [u32], m: usize) -> Found
         let at = seen_at(rows, i);
         let r = look_at(w, marks, rows, i, seen[at] == 0);
         seen[at] = 1;
-        table::put_missing(rows, i, r.missing);
+        table::put_note(rows, i, r.note);
         good = good & r.good;
         used += r.used;
         i += 1;

@@ -1,14 +1,12 @@
--- The payload of a datagram as it is laid down, and whether a packet of a group is missing. Assumes nothing.
+-- The payload of a datagram as it is laid down, and the members of a group that is whole. Assumes nothing.
 use mathlib.Core.Path.{_≡_, refl, sym, ap, _∙_}
-use mathlib.Core.Bool.{Bool, true, false, not}
+use mathlib.Core.Bool.{Bool, false, not}
 use mathlib.Core.List.{List, [], _∷_}
-use Prim.Native.Nat.{ℕ, zero, suc, _≤_}
+use Prim.Native.Nat.{ℕ, _≤_}
 use native.Mathlib.Omega.{arith}
-use lib.Dec.{ltb}
 use lib.ListN.{length, take}
 use lib.Seq.{length-take-le}
-use borrow.Author.Tests.{lt-ltb, le-ltb}
-use Rattle.sequence.specs.Lists.{any, keep, count, or-split, any-count}
+use Rattle.sequence.specs.Lists.{any, keep, or-split}
 use Rattle.xor.specs.Xor.{padded}
 use Rattle.xor.specs.Padded.{padded-front}
 
@@ -24,16 +22,3 @@ keep-all test [] e = refl
 keep-all test (i ∷ l) e =
     let s = or-split (test i) (any test l) e in
     rw (s .0) (ap (λ (k : List ℕ). i ∷ k) (keep-all test l (s .1)))
-
--- a number that is not 0 is above 0
-positive : (m : ℕ) → (m ≡ 0 → ⊥) → ltb 0 m ≡ true
-positive zero h = absurd (h refl)
-positive (suc m) h = lt-ltb 0 (suc m) (omega arith)
-
--- a test holds of some element where it holds of not 0 of them
-pub any-some : (test : ℕ → Bool) (l : List ℕ) (n : ℕ) → n ≡ count test l → (n ≡ 0 → ⊥) → any test l ≡ true
-any-some test l n e h = any-count test l ∙ positive (count test l) (λ q. h (e ∙ q))
-
--- and of none where it holds of 0 of them
-pub any-none : (test : ℕ → Bool) (l : List ℕ) (n : ℕ) → n ≡ count test l → n ≡ 0 → any test l ≡ false
-any-none test l n e z = any-count test l ∙ le-ltb 0 (count test l) (omega arith)

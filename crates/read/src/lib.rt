@@ -111,7 +111,7 @@ fn group_fault(w: Window, stream: u8, snbase: u16, marks: &[u8]) -> u8
     if !w.group_inside(stream, snbase) {
         return 13;
     }
-    if group::count_missing(w, marks, stream, snbase) != 0 {
+    if window::lacks(group::look(w, marks, stream, snbase)) {
         return 17;
     }
     0

@@ -12,32 +12,32 @@ use lib.Seq.{set-at, append-snoc, take-suc-set, length-take-le, drop-length, dro
 use borrow.Author.Tests.{not-false, eq-eqb, eqb-true, ne-eqb, lt-ltb, le-ltb, ltb-true, ltb-false}
 use Rattle.window.specs.declared.Record.{Record}
 use Rattle.window.specs.Record.{blank}
-use Rattle.table.specs.View.{Row, nobody, hand, slotAt, missingAt, put, putMissing, itAt, scatter}
+use Rattle.table.specs.View.{Row, nobody, hand, slotAt, put, putNote, itAt, scatter}
 use Rattle.table.specs.Apart.{Within}
 use Rattle.table.specs.Gather.{more, gathered, Gathered, wiped}
 
 -- a head and a record written into one row are a row
-one-row : (hs : List Row) (i s n : ℕ) (w v : Record) → put (set hs i (record { slot = s; missing = n; it = w })) i v ≡ set hs i (record { slot = s; missing = n; it = v })
+one-row : (hs : List Row) (i s n : ℕ) (w v : Record) → put (set hs i (record { slot = s; note = n; it = w })) i v ≡ set hs i (record { slot = s; note = n; it = v })
 one-row [] i s n w v = refl
 one-row (h ∷ hs) zero s n w v = refl
 one-row (h ∷ hs) (suc i) s n w v = ap (λ (gs : List Row). h ∷ gs) (one-row hs i s n w v)
 
 -- a head is written, and then a record
-pub head-and-record : (hs hs₁ hs₂ : List Row) (i s n : ℕ) (w v : Record) → hs₁ ≡ set hs i (record { slot = s; missing = n; it = w }) → hs₂ ≡ put hs₁ i v → hs₂ ≡ set hs i (record { slot = s; missing = n; it = v })
+pub head-and-record : (hs hs₁ hs₂ : List Row) (i s n : ℕ) (w v : Record) → hs₁ ≡ set hs i (record { slot = s; note = n; it = w }) → hs₂ ≡ put hs₁ i v → hs₂ ≡ set hs i (record { slot = s; note = n; it = v })
 head-and-record hs hs₁ hs₂ i s n w v e f = f ∙ ap (λ (gs : List Row). put gs i v) e ∙ one-row hs i s n w v
 
--- a head that keeps the slot sets the missing count
-pub kept-slot : (hs hs′ : List Row) (i s n m : ℕ) → hs′ ≡ set hs i (record { slot = s; missing = n; it = itAt hs i }) → s ≡ slotAt hs i → n ≡ m → hs′ ≡ putMissing hs i m
+-- a head that keeps the slot sets the note
+pub kept-slot : (hs hs′ : List Row) (i s n m : ℕ) → hs′ ≡ set hs i (record { slot = s; note = n; it = itAt hs i }) → s ≡ slotAt hs i → n ≡ m → hs′ ≡ putNote hs i m
 kept-slot hs hs′ i s n m p e f = p ∙ rw (e, f)
 
 -- a row is written at a slot by its word
-pub at-slot : (hs hs′ : List Row) (i w s : ℕ) (v : Record) → hs′ ≡ set hs i (record { slot = w; missing = 0; it = v }) → w ≡ s → hs′ ≡ set hs i (record { slot = s; missing = 0; it = v })
-at-slot hs hs′ i w s v p e = p ∙ ap (λ (j : ℕ). set hs i (record { slot = j; missing = 0; it = v })) e
+pub at-slot : (hs hs′ : List Row) (i w s : ℕ) (v : Record) → hs′ ≡ set hs i (record { slot = w; note = 0; it = v }) → w ≡ s → hs′ ≡ set hs i (record { slot = s; note = 0; it = v })
+at-slot hs hs′ i w s v p e = p ∙ ap (λ (j : ℕ). set hs i (record { slot = j; note = 0; it = v })) e
 
 module _ (most n r : ℕ) (v : Record) (hs gs : List Row) (g : Gathered most n hs gs) where
   -- the row that is taken in
   abbrev row : Row
-  row = record { slot = r; missing = 0; it = v }
+  row = record { slot = r; note = 0; it = v }
 
   -- there is one row more
   longer : length (gs ++ (row ∷ [])) ≡ length gs + 1

@@ -8,7 +8,7 @@ use lib.ListN.{length, getD, set, length-set}
 use lib.Seq.{getD-set-same, getD-set-other, set-set, set-comm}
 use Rattle.window.specs.declared.Record.{Record}
 use Rattle.window.specs.Record.{blank}
-use Rattle.table.specs.View.{Row, nobody, slotAt, missingAt, itAt, put, putMissing, slots, its, scatter}
+use Rattle.table.specs.View.{Row, nobody, slotAt, itAt, put, putNote, slots, its, scatter}
 
 -- record r of a table is free
 abbrev pub Free : List Record → ℕ → Type 0
@@ -18,7 +18,7 @@ Free t r = getD t r blank .«in_use» ≡ 0
 pub data Apart (t : List Record) (k : ℕ) : ℕ → List Row → Type 0 where
   done : Apart t k k []
   free : {q : ℕ} {hs : List Row} → Free t q → Apart t k (suc q) hs → Apart t k q hs
-  held : {q : ℕ} (hs : List Row) (c : ℕ) (v : Record) → Apart t k (suc q) hs → Apart t k q (record { slot = q; missing = c; it = v } ∷ hs)
+  held : {q : ℕ} (hs : List Row) (c : ℕ) (v : Record) → Apart t k (suc q) hs → Apart t k q (record { slot = q; note = c; it = v } ∷ hs)
 
 -- every slot is below k
 abbrev pub Within : ℕ → List Row → Type 0
@@ -101,19 +101,19 @@ slots-put [] i v = refl
 slots-put (h ∷ hs) zero v = refl
 slots-put (h ∷ hs) (suc i) v = ap (λ (ss : List ℕ). h .slot ∷ ss) (slots-put hs i v)
 
--- a written missing count keeps the slot
-pub slots-putMissing : (hs : List Row) (i n : ℕ) → slots (putMissing hs i n) ≡ slots hs
+-- a written note keeps the slot
+pub slots-putNote : (hs : List Row) (i n : ℕ) → slots (putNote hs i n) ≡ slots hs
 unfolding slots
-slots-putMissing [] i n = refl
-slots-putMissing (h ∷ hs) zero n = refl
-slots-putMissing (h ∷ hs) (suc i) n = ap (λ (ss : List ℕ). h .slot ∷ ss) (slots-putMissing hs i n)
+slots-putNote [] i n = refl
+slots-putNote (h ∷ hs) zero n = refl
+slots-putNote (h ∷ hs) (suc i) n = ap (λ (ss : List ℕ). h .slot ∷ ss) (slots-putNote hs i n)
 
--- a written missing count keeps the record
-pub its-putMissing : (hs : List Row) (i n : ℕ) → its (putMissing hs i n) ≡ its hs
+-- a written note keeps the record
+pub its-putNote : (hs : List Row) (i n : ℕ) → its (putNote hs i n) ≡ its hs
 unfolding its
-its-putMissing [] i n = refl
-its-putMissing (h ∷ hs) zero n = refl
-its-putMissing (h ∷ hs) (suc i) n = ap (λ (vs : List Record). h .it ∷ vs) (its-putMissing hs i n)
+its-putNote [] i n = refl
+its-putNote (h ∷ hs) zero n = refl
+its-putNote (h ∷ hs) (suc i) n = ap (λ (vs : List Record). h .it ∷ vs) (its-putNote hs i n)
 
 -- a written row has its record among the records
 pub its-put : (hs : List Row) (i : ℕ) (v : Record) → its (put hs i v) ≡ set (its hs) i v
@@ -158,7 +158,7 @@ same-apart done [] e = done
 same-apart done (g ∷ gs) e = absurd (nil-cons (sym e))
 same-apart (free f d) gs e = free f (same-apart d gs e)
 same-apart (held hs c v d) [] e = absurd (nil-cons e)
-same-apart {t} {k} {q} (held hs c v d) (g ∷ gs) e = subst (λ (s : ℕ). Apart t k q (record { slot = s; missing = g .missing; it = g .it } ∷ gs)) (sym (cons-head e)) (held gs (g .missing) (g .it) (same-apart d gs (cons-tail e)))
+same-apart {t} {k} {q} (held hs c v d) (g ∷ gs) e = subst (λ (s : ℕ). Apart t k q (record { slot = s; note = g .note; it = g .it } ∷ gs)) (sym (cons-head e)) (held gs (g .note) (g .it) (same-apart d gs (cons-tail e)))
 
 -- of hands with the same slots each row has the same slot
 pub same-slot : (hs gs : List Row) → slots gs ≡ slots hs → (i : ℕ) → slotAt gs i ≡ slotAt hs i
@@ -182,7 +182,7 @@ same-fits f gs e = record { apart = same-apart (f .apart) gs e; enough = f .enou
 pub put-fits : {t : List Record} {k : ℕ} {hs : List Row} → Fits t k hs → (i : ℕ) (v : Record) → Fits t k (put hs i v)
 put-fits {t} {k} {hs} f i v = same-fits f (put hs i v) (slots-put hs i v)
 
--- two hands that differ in missing counts at most
+-- two hands that differ in notes at most
 pub record Alike (hs gs : List Row) : Type 0 where
   pub same-slots : slots hs ≡ slots gs
   pub same-its : its hs ≡ its gs
@@ -199,9 +199,9 @@ alike-sym a = record { same-slots = sym (a .same-slots); same-its = sym (a .same
 pub alike-trans : {hs gs fs : List Row} → Alike hs gs → Alike gs fs → Alike hs fs
 alike-trans a b = record { same-slots = a .same-slots ∙ b .same-slots; same-its = a .same-its ∙ b .same-its }
 
--- a hand with another missing count is like the hand
-pub alike-missing : (hs : List Row) (i n : ℕ) → Alike (putMissing hs i n) hs
-alike-missing hs i n = record { same-slots = slots-putMissing hs i n; same-its = its-putMissing hs i n }
+-- a hand with another note is like the hand
+pub alike-note : (hs : List Row) (i n : ℕ) → Alike (putNote hs i n) hs
+alike-note hs i n = record { same-slots = slots-putNote hs i n; same-its = its-putNote hs i n }
 
 -- hands that are alike stay so where each gets the same record
 pub alike-put : {hs gs : List Row} → Alike hs gs → (i : ℕ) (v : Record) → Alike (put hs i v) (put gs i v)

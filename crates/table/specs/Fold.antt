@@ -34,7 +34,7 @@ module _ {X : Type 0} (table : X → List Record) (step : ℕ → X → X) (stil
   through : {k q : ℕ} (x : X) {hs : List Row} → Apart (table x) k q hs → below step k x ≡ rows step hs (length hs) (below step q x)
   through x done = refl
   through {k} {q} x {hs} (free f d) = through x d ∙ ap (rows step hs (length hs)) (still q (below step q x) (kept q q x f))
-  through {k} {q} x (held hs c v d) = through x d ∙ sym (first-step (λ i. step (slotAt (record { slot = q; missing = c; it = v } ∷ hs) i)) (length hs) (below step q x))
+  through {k} {q} x (held hs c v d) = through x d ∙ sym (first-step (λ i. step (slotAt (record { slot = q; note = c; it = v } ∷ hs) i)) (length hs) (below step q x))
 
   -- the steps at all records are those at the rows
   pub fold : {k : ℕ} (x : X) {hs : List Row} → Apart (table x) k 0 hs → below step k x ≡ rows step hs (length hs) x
@@ -62,11 +62,11 @@ module _ {X : Type 0} (step : ℕ → X → X) {t : List Record} {k : ℕ} (stil
   pub steps : {q : ℕ} {hs : List Row} → Apart t k q hs → (x : X) → below step k x ≡ rows step hs (length hs) (below step q x)
   steps done x = refl
   steps {q} {hs} (free f d) x = steps d x ∙ ap (rows step hs (length hs)) (still q (omega (arith, ends d)) f (below step q x))
-  steps {q} (held hs c v d) x = steps d x ∙ sym (first-step (λ i. step (slotAt (record { slot = q; missing = c; it = v } ∷ hs) i)) (length hs) (below step q x))
+  steps {q} (held hs c v d) x = steps d x ∙ sym (first-step (λ i. step (slotAt (record { slot = q; note = c; it = v } ∷ hs) i)) (length hs) (below step q x))
 
   -- the steps at the records before a row's are those at the rows before it
   pub steps-before : {q : ℕ} {hs : List Row} → Apart t k q hs → (x : X) (i : ℕ) → i < length hs → below step (slotAt hs i) x ≡ rows step hs i (below step q x)
   steps-before done x i l = absurd (not-suc-le-zero l)
   steps-before {q} {hs} (free f d) x i l = steps-before d x i l ∙ ap (rows step hs i) (still q (omega (arith, ends d)) f (below step q x))
   steps-before (held hs c v d) x zero l = refl
-  steps-before {q} (held hs c v d) x (suc i) l = steps-before d x i (le-of-suc-le-suc l) ∙ sym (first-step (λ j. step (slotAt (record { slot = q; missing = c; it = v } ∷ hs) j)) i (below step q x))
+  steps-before {q} (held hs c v d) x (suc i) l = steps-before d x i (le-of-suc-le-suc l) ∙ sym (first-step (λ j. step (slotAt (record { slot = q; note = c; it = v } ∷ hs) j)) i (below step q x))

@@ -15,9 +15,9 @@ use Rattle.table.specs.Apart.{Free, Apart, done, free, held, Within, wit
 
 -- one record more: it is held where its mark is not 0
 abbrev pub more : List Row → ℕ → Record → List Row
-more hs r v = cond (eqb (v .«in_use») 0) hs (hs ++ (record { slot = r; missing = 0; it = v } ∷ []))
+more hs r v = cond (eqb (v .«in_use») 0) hs (hs ++ (record { slot = r; note = 0; it = v } ∷ []))
 
--- the records among the first k of a table whose mark is not 0, each with none missing
+-- the records among the first k of a table whose mark is not 0, each with note 0
 unfoldable pub gathered : ℕ → List Record → List Row
 gathered zero t = []
 gathered (suc r) t = more (gathered r t) r (getD t r blank)
@@ -35,7 +35,7 @@ module _ {t : List Record} where
   free-last (held hs c v d) f = held _ c v (free-last d f)
 
   -- one held record more
-  held-last : {k q : ℕ} {hs : List Row} → Apart t k q hs → (v : Record) → Apart t (suc k) q (hs ++ (record { slot = k; missing = 0; it = v } ∷ []))
+  held-last : {k q : ℕ} {hs : List Row} → Apart t k q hs → (v : Record) → Apart t (suc k) q (hs ++ (record { slot = k; note = 0; it = v } ∷ []))
   held-last done v = held _ 0 v done
   held-last (free g d) v = free g (held-last d v)
   held-last (held hs c w d) v = held _ c w (held-last d v)
@@ -46,7 +46,7 @@ unfolding gathered
 gathered-apart zero t = done
 gathered-apart (suc r) t = go (eqb (getD t r blank .«in_use») 0) refl (gathered-apart r t)
   where
-    go : (b : Bool) → eqb (getD t r blank .«in_use») 0 ≡ b → Apart t r 0 (gathered r t) → Apart t (suc r) 0 (cond b (gathered r t) (gathered r t ++ (record { slot = r; missing = 0; it = getD t r blank } ∷ [])))
+    go : (b : Bool) → eqb (getD t r blank .«in_use») 0 ≡ b → Apart t r 0 (gathered r t) → Apart t (suc r) 0 (cond b (gathered r t) (gathered r t ++ (record { slot = r; note = 0; it = getD t r blank } ∷ [])))
     go true e d = free-last d (eqb-true (getD t r blank .«in_use») 0 e)
     go false e d = held-last d (getD t r blank)
 
@@ -62,9 +62,9 @@ unfolding scatter gathered
 gathered-scatter zero t = refl
 gathered-scatter (suc r) t = go (eqb (getD t r blank .«in_use») 0) (gathered-scatter r t)
   where
-    go : (b : Bool) → scatter (gathered r t) t ≡ t → scatter (cond b (gathered r t) (gathered r t ++ (record { slot = r; missing = 0; it = getD t r blank } ∷ []))) t ≡ t
+    go : (b : Bool) → scatter (gathered r t) t ≡ t → scatter (cond b (gathered r t) (gathered r t ++ (record { slot = r; note = 0; it = getD t r blank } ∷ []))) t ≡ t
     go true e = e
-    go false e = scatter-last (gathered r t) (record { slot = r; missing = 0; it = getD t r blank }) t ∙ ap (scatter (gathered r t)) (set-getD t r blank) ∙ e
+    go false e = scatter-last (gathered r t) (record { slot = r; note = 0; it = getD t r blank }) t ∙ ap (scatter (gathered r t)) (set-getD t r blank) ∙ e
 
 -- every slot that is gathered is below k
 pub gathered-within : (k : ℕ) (t : List Record) → Within k (gathered k t)

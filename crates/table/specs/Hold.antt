@@ -15,7 +15,7 @@ use Rattle.sequence.specs.Lists.{upTo, keep, headOr, keep-append, count, count-
 use Rattle.window.specs.declared.Record.{Record}
 use Rattle.window.specs.Record.{blank}
 use Rattle.window.specs.Order.{used}
-use Rattle.table.specs.View.{Row, nobody, slotAt, missingAt, itAt, put, scatter}
+use Rattle.table.specs.View.{Row, nobody, slotAt, noteAt, itAt, put, scatter}
 use Rattle.table.specs.Apart.{Free, Apart, done, free, held, ends, least, get-scatter, apart-scatter, Within, Fits}
 
 -- the first number from q on that is not the slot of a row in use, where the rows' slots are from q on
@@ -103,13 +103,13 @@ first-free-rows {t} {k} hs d n =
     let z : k ≡ k - 0 = omega arith in
     ap (λ (m : ℕ). firstFree m (scatter hs t)) (sym (zero-add k)) ∙ from-is (unusedAt (scatter hs t)) k 0 (λ r l. absurd (not-suc-le-zero l)) ∙ ap (from (unusedAt (scatter hs t)) 0) z ∙ gap-is (apart-scatter d) (get-scatter d n)
 
--- a record goes into the first free record: into its row, whose missing count stays, or into a new row with none missing
+-- a record goes into the first free record: into its row, whose note stays, or into a new row with note 0
 abbrev pub holdIn : ℕ → Record → List Row → List Row
-holdIn q v [] = record { slot = q; missing = 0; it = v } ∷ []
-holdIn q v (h ∷ hs) = cond (eqb (h .slot) q) (cond (eqb (h .it .«in_use») 1) (h ∷ holdIn (q + 1) v hs) (record { slot = q; missing = h .missing; it = v } ∷ hs)) (record { slot = q; missing = 0; it = v } ∷ h ∷ hs)
+holdIn q v [] = record { slot = q; note = 0; it = v } ∷ []
+holdIn q v (h ∷ hs) = cond (eqb (h .slot) q) (cond (eqb (h .it .«in_use») 1) (h ∷ holdIn (q + 1) v hs) (record { slot = q; note = h .note; it = v } ∷ hs)) (record { slot = q; note = 0; it = v } ∷ h ∷ hs)
 
 -- where the slots are beyond q, the row goes to the front
-front : (q : ℕ) (v : Record) (hs : List Row) → ((i : ℕ) → i < length hs → suc q ≤ slotAt hs i) → holdIn q v hs ≡ record { slot = q; missing = 0; it = v } ∷ hs
+front : (q : ℕ) (v : Record) (hs : List Row) → ((i : ℕ) → i < length hs → suc q ≤ slotAt hs i) → holdIn q v hs ≡ record { slot = q; note = 0; it = v } ∷ hs
 front q v [] l = refl
 front q v (h ∷ hs) l = let n = l 0 (omega arith) in rw (ne-eqb (h .slot) q (λ e. omega arith))
 
@@ -119,7 +119,7 @@ hold-apart done v l = absurd (omega arith)
 hold-apart {t} {k} {q} {hs} (free f d) v l = rw (front q v hs (λ i h. least d i h .0)) (held hs 0 v d)
 hold-apart {t} {k} {q} (held hs c w d) v l = rw (eq-eqb q q refl) (go (eqb (w .«in_use») 1) refl (λ h. hold-apart d v h))
   where
-    go : (b : Bool) → eqb (w .«in_use») 1 ≡ b → (gapFrom (suc q) hs < k → Apart t k (suc q) (holdIn (suc q) v hs)) → Apart t k q (cond b (record { slot = q; missing = c; it = w } ∷ holdIn (q + 1) v hs) (record { slot = q; missing = c; it = v } ∷ hs))
+    go : (b : Bool) → eqb (w .«in_use») 1 ≡ b → (gapFrom (suc q) hs < k → Apart t k (suc q) (holdIn (suc q) v hs)) → Apart t k q (cond b (record { slot = q; note = c; it = w } ∷ holdIn (q + 1) v hs) (record { slot = q; note = c; it = v } ∷ hs))
     go true e r = rw (add-one q) (held (holdIn (suc q) v hs) c w (r (rw (eq-eqb q q refl, e, add-one q) at l)))
     go false e r = held hs c v d
 
@@ -131,7 +131,7 @@ hold-scatter {t} {k} {q} {hs} (free f d) v = rw (front q v hs (λ i h. least d i
 hold-scatter {t} {k} {q} (held hs c w d) v = rw (eq-eqb q q refl) (go (eqb (w .«in_use») 1) (hold-scatter d v) (beyond (suc q) hs))
   where
     go : (b : Bool) → scatter (holdIn (suc q) v hs) t ≡ set (scatter hs t) (gapFrom (suc q) hs) v → suc q ≤ gapFrom (suc q) hs
-        → scatter (cond b (record { slot = q; missing = c; it = w } ∷ holdIn (q + 1) v hs) (record { slot = q; missing = c; it = v } ∷ hs)) t ≡ set (set (scatter hs t) q w) (cond b (gapFrom (q + 1) hs) q) v
+        → scatter (cond b (record { slot = q; note = c; it = w } ∷ holdIn (q + 1) v hs) (record { slot = q; note = c; it = v } ∷ hs)) t ≡ set (set (scatter hs t) q w) (cond b (gapFrom (q + 1) hs) q) v
     go true e l = rw (add-one q) (ap (λ (rs : List Record). set rs q w) e ∙ set-comm (scatter hs t) (gapFrom (suc q) hs) q v w (λ n. omega arith))
     go false e l = sym (set-set (scatter hs t) q w v)
 
@@ -234,15 +234,15 @@ module _ (m : ℕ) (hs : List Row) (l : m < length hs) where
       }
 
 -- at a gap the record goes into the row that has its slot, or before the rows
-own-row : (q : ℕ) (v : Record) (h : Row) (hs : List Row) → gapFrom q (h ∷ hs) ≡ q → h .slot ≡ q → holdIn q v (h ∷ hs) ≡ record { slot = q; missing = h .missing; it = v } ∷ hs
+own-row : (q : ℕ) (v : Record) (h : Row) (hs : List Row) → gapFrom q (h ∷ hs) ≡ q → h .slot ≡ q → holdIn q v (h ∷ hs) ≡ record { slot = q; note = h .note; it = v } ∷ hs
 own-row q v h hs g e = rw (eq-eqb (h .slot) q e) (go (eqb (h .it .«in_use») 1) (rw (eq-eqb (h .slot) q e) at g))
   where
-    go : (b : Bool) → cond b (gapFrom (q + 1) hs) q ≡ q → cond b (h ∷ holdIn (q + 1) v hs) (record { slot = q; missing = h .missing; it = v } ∷ hs) ≡ record { slot = q; missing = h .missing; it = v } ∷ hs
+    go : (b : Bool) → cond b (gapFrom (q + 1) hs) q ≡ q → cond b (h ∷ holdIn (q + 1) v hs) (record { slot = q; note = h .note; it = v } ∷ hs) ≡ record { slot = q; note = h .note; it = v } ∷ hs
     go true n = absurd (omega (arith, beyond (q + 1) hs))
     go false n = refl
 
 -- a record whose slot no row has goes before the rows
-new-row : (q : ℕ) (v : Record) (hs : List Row) → (0 < length hs → slotAt hs 0 ≡ q → ⊥) → holdIn q v hs ≡ record { slot = q; missing = 0; it = v } ∷ hs
+new-row : (q : ℕ) (v : Record) (hs : List Row) → (0 < length hs → slotAt hs 0 ≡ q → ⊥) → holdIn q v hs ≡ record { slot = q; note = 0; it = v } ∷ hs
 new-row q v [] n = refl
 new-row q v (h ∷ hs) n = rw (ne-eqb (h .slot) q (n (omega arith)))
 
@@ -257,15 +257,15 @@ module _ (m : ℕ) (hs : List Row) (l : m < length hs) (r : ℕ) (f : FirstFree 
       let g : Row = getD (take m hs) r nobody in
       let eg : g ≡ getD hs r nobody = getD-take m hs r nobody h in
       let d : drop r (take m hs) ≡ g ∷ drop (suc r) (take m hs) = drop-cons (take m hs) r nobody (omega (arith, lm)) in
-      let o : holdIn r v (drop r (take m hs)) ≡ record { slot = r; missing = g .missing; it = v } ∷ drop (suc r) (take m hs) = rw d (own-row r v g (drop (suc r) (take m hs)) (rw d at (f .gap)) (ap (λ (x : Row). x .slot) eg ∙ e)) in
-      ap (take m) p ∙ take-set-lt m hs r (record { slot = slotAt hs r; missing = missingAt hs r; it = v }) h ∙ set-split (take m hs) r (record { slot = slotAt hs r; missing = missingAt hs r; it = v }) (omega (arith, lm))
-      ∙ ap (λ (n : ℕ). take r (take m hs) ++ record { slot = n; missing = missingAt hs r; it = v } ∷ drop (suc r) (take m hs)) e ∙ ap (λ (x : Row). take r (take m hs) ++ record { slot = r; missing = x .missing; it = v } ∷ drop (suc r) (take m hs)) (sym eg) ∙ ap (λ (gs : List Row). take r (take m hs) ++ gs) (sym o) ∙ sym (f .stay v)
+      let o : holdIn r v (drop r (take m hs)) ≡ record { slot = r; note = g .note; it = v } ∷ drop (suc r) (take m hs) = rw d (own-row r v g (drop (suc r) (take m hs)) (rw d at (f .gap)) (ap (λ (x : Row). x .slot) eg ∙ e)) in
+      ap (take m) p ∙ take-set-lt m hs r (record { slot = slotAt hs r; note = noteAt hs r; it = v }) h ∙ set-split (take m hs) r (record { slot = slotAt hs r; note = noteAt hs r; it = v }) (omega (arith, lm))
+      ∙ ap (λ (n : ℕ). take r (take m hs) ++ record { slot = n; note = noteAt hs r; it = v } ∷ drop (suc r) (take m hs)) e ∙ ap (λ (x : Row). take r (take m hs) ++ record { slot = r; note = x .note; it = v } ∷ drop (suc r) (take m hs)) (sym eg) ∙ ap (λ (gs : List Row). take r (take m hs) ++ gs) (sym o) ∙ sym (f .stay v)
 
   -- the record is written into a new row
-  pub in-new-row : (hs₁ hs₂ : List Row) (w : ℕ) → w ≡ r → (r < m → slotAt hs r ≡ r → ⊥) → Shifted r m hs hs₁ → hs₂ ≡ set hs₁ r (record { slot = w; missing = 0; it = v }) → take (m + 1) hs₂ ≡ holdIn 0 v (take m hs)
+  pub in-new-row : (hs₁ hs₂ : List Row) (w : ℕ) → w ≡ r → (r < m → slotAt hs r ≡ r → ⊥) → Shifted r m hs hs₁ → hs₂ ≡ set hs₁ r (record { slot = w; note = 0; it = v }) → take (m + 1) hs₂ ≡ holdIn 0 v (take m hs)
   in-new-row hs₁ hs₂ w is n s e =
-      let o : holdIn r v (drop r (take m hs)) ≡ record { slot = r; missing = 0; it = v } ∷ drop r (take m hs) = new-row r v (drop r (take m hs)) (λ z q. n (omega (arith, lm, length-drop r (take m hs))) (sym (ap (λ (x : Row). x .slot) (at-row z)) ∙ q)) in
-      rw (add-one m) (put-row m hs l r hs₁ hs₂ (record { slot = r; missing = 0; it = v }) (f .few) s (e ∙ ap (λ (j : ℕ). set hs₁ r (record { slot = j; missing = 0; it = v })) is) ∙ ap (λ (gs : List Row). take r (take m hs) ++ gs) (sym o) ∙ sym (f .stay v))
+      let o : holdIn r v (drop r (take m hs)) ≡ record { slot = r; note = 0; it = v } ∷ drop r (take m hs) = new-row r v (drop r (take m hs)) (λ z q. n (omega (arith, lm, length-drop r (take m hs))) (sym (ap (λ (x : Row). x .slot) (at-row z)) ∙ q)) in
+      rw (add-one m) (put-row m hs l r hs₁ hs₂ (record { slot = r; note = 0; it = v }) (f .few) s (e ∙ ap (λ (j : ℕ). set hs₁ r (record { slot = j; note = 0; it = v })) is) ∙ ap (λ (gs : List Row). take r (take m hs) ++ gs) (sym o) ∙ sym (f .stay v))
     where
       at-row : 0 < length (drop r (take m hs)) → getD (drop r (take m hs)) 0 nobody ≡ getD hs r nobody
       at-row z = let k : r + 0 ≡ r = omega arith in getD-drop r (take m hs) 0 nobody ∙ ap (λ (j : ℕ). getD (take m hs) j nobody) k ∙ getD-take m hs r nobody (omega (arith, lm, length-drop r (take m hs)))
@@ -285,7 +285,7 @@ hold-within n q v [] w g (suc i) l = absurd (not-suc-le-zero (le-of-suc-le-suc l
 hold-within n q v (h ∷ hs) w g i l = go (eqb (h .slot) q) (eqb (h .it .«in_use») 1) (hold-within n (q + 1) v hs (λ j z. w (suc j) (omega arith))) g i l
   where
     go : (a b : Bool) → (gapFrom (q + 1) hs < n → Within n (holdIn (q + 1) v hs)) → cond (a && b) (gapFrom (q + 1) hs) q < n
-        → Within n (cond a (cond b (h ∷ holdIn (q + 1) v hs) (record { slot = q; missing = h .missing; it = v } ∷ hs)) (record { slot = q; missing = 0; it = v } ∷ h ∷ hs))
+        → Within n (cond a (cond b (h ∷ holdIn (q + 1) v hs) (record { slot = q; note = h .note; it = v } ∷ hs)) (record { slot = q; note = 0; it = v } ∷ h ∷ hs))
     go true true r g zero l = w 0 (omega arith)
     go true true r g (suc i) l = r g i (le-of-suc-le-suc l)
     go true false r g zero l = g
@@ -299,7 +299,7 @@ hold-length q v [] = (omega arith, omega arith)
 hold-length q v (h ∷ hs) = go (eqb (h .slot) q) (eqb (h .it .«in_use») 1) (hold-length (q + 1) v hs)
   where
     go : (a b : Bool) → (length hs ≤ length (holdIn (q + 1) v hs)) × (length (holdIn (q + 1) v hs) ≤ length hs + 1)
-        → (suc (length hs) ≤ length (cond a (cond b (h ∷ holdIn (q + 1) v hs) (record { slot = q; missing = h .missing; it = v } ∷ hs)) (record { slot = q; missing = 0; it = v } ∷ h ∷ hs))) × (length (cond a (cond b (h ∷ holdIn (q + 1) v hs) (record { slot = q; missing = h .missing; it = v } ∷ hs)) (record { slot = q; missing = 0; it = v } ∷ h ∷ hs)) ≤ suc (length hs) + 1)
+        → (suc (length hs) ≤ length (cond a (cond b (h ∷ holdIn (q + 1) v hs) (record { slot = q; note = h .note; it = v } ∷ hs)) (record { slot = q; note = 0; it = v } ∷ h ∷ hs))) × (length (cond a (cond b (h ∷ holdIn (q + 1) v hs) (record { slot = q; note = h .note; it = v } ∷ hs)) (record { slot = q; note = 0; it = v } ∷ h ∷ hs)) ≤ suc (length hs) + 1)
     go true true e = (omega arith, omega arith)
     go true false e = (omega arith, omega arith)
     go false b e = (omega arith, omega arith)

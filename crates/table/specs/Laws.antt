@@ -7,7 +7,7 @@ use native.Mathlib.Nat.{not-suc-le-zero, le-of-suc-le-suc}
 use lib.Arith.{digits-div, digits-mod}
 use lib.ListN.{length, getD, set, take}
 use Rattle.window.specs.declared.Record.{Record}
-use Rattle.table.specs.View.{Row, nobody, rowWords, headOf, recordOf, hand, wordsAt, putWords, fit, slotAt, missingAt, itAt, put}
+use Rattle.table.specs.View.{Row, nobody, rowWords, headOf, recordOf, hand, wordsAt, putWords, fit, slotAt, noteAt, itAt, put}
 
 -- as many words as a row has are there for each row, and fewer are left over
 pub long : (ws : List ℕ) → (length (hand ws) * rowWords ≤ length ws) × (length ws < length (hand ws) * rowWords + rowWords)
@@ -52,15 +52,15 @@ get-slot (h ∷ a ∷ d ∷ []) i l = absurd (not-suc-le-zero l)
 get-slot (h ∷ a ∷ d ∷ e ∷ ws) zero l = refl
 get-slot (h ∷ a ∷ d ∷ e ∷ ws) (suc i) l = rw on₀ (get-slot ws i (le-of-suc-le-suc l))
 
--- the missing count of row i is in its first word
-pub get-missing : (ws : List ℕ) (i : ℕ) → i < length (hand ws) → getD ws (i * rowWords) 0 % 65536 ≡ missingAt (hand ws) i
+-- the note of row i is in its first word
+pub get-note : (ws : List ℕ) (i : ℕ) → i < length (hand ws) → getD ws (i * rowWords) 0 % 65536 ≡ noteAt (hand ws) i
 unfolding hand
-get-missing [] i l = absurd (not-suc-le-zero l)
-get-missing (h ∷ []) i l = absurd (not-suc-le-zero l)
-get-missing (h ∷ a ∷ []) i l = absurd (not-suc-le-zero l)
-get-missing (h ∷ a ∷ d ∷ []) i l = absurd (not-suc-le-zero l)
-get-missing (h ∷ a ∷ d ∷ e ∷ ws) zero l = refl
-get-missing (h ∷ a ∷ d ∷ e ∷ ws) (suc i) l = rw on₀ (get-missing ws i (le-of-suc-le-suc l))
+get-note [] i l = absurd (not-suc-le-zero l)
+get-note (h ∷ []) i l = absurd (not-suc-le-zero l)
+get-note (h ∷ a ∷ []) i l = absurd (not-suc-le-zero l)
+get-note (h ∷ a ∷ d ∷ []) i l = absurd (not-suc-le-zero l)
+get-note (h ∷ a ∷ d ∷ e ∷ ws) zero l = refl
+get-note (h ∷ a ∷ d ∷ e ∷ ws) (suc i) l = rw on₀ (get-note ws i (le-of-suc-le-suc l))
 
 -- the record of row i is that of its other words
 pub get-it : (ws : List ℕ) (i : ℕ) → i < length (hand ws) → wordsAt ws (i * rowWords + 1) ≡ itAt (hand ws) i
@@ -73,17 +73,17 @@ get-it (h ∷ a ∷ d ∷ e ∷ ws) zero l = refl
 get-it (h ∷ a ∷ d ∷ e ∷ ws) (suc i) l = rw (on i 1, on i 2, on₁ i) (get-it ws i (le-of-suc-le-suc l))
 
 -- the first word of row i set
-set-first : (ws : List ℕ) (i h : ℕ) → i < length (hand ws) → hand (set ws (i * rowWords) h) ≡ set (hand ws) i (record { slot = h / 65536; missing = h % 65536; it = itAt (hand ws) i })
+set-first : (ws : List ℕ) (i h : ℕ) → i < length (hand ws) → hand (set ws (i * rowWords) h) ≡ set (hand ws) i (record { slot = h / 65536; note = h % 65536; it = itAt (hand ws) i })
 unfolding hand
 set-first [] i m l = absurd (not-suc-le-zero l)
 set-first (h ∷ []) i m l = absurd (not-suc-le-zero l)
 set-first (h ∷ a ∷ []) i m l = absurd (not-suc-le-zero l)
 set-first (h ∷ a ∷ d ∷ []) i m l = absurd (not-suc-le-zero l)
 set-first (h ∷ a ∷ d ∷ e ∷ ws) zero m l = refl
-set-first (h ∷ a ∷ d ∷ e ∷ ws) (suc i) m l = rw on₀ (ap (λ (hs : List Row). record { slot = h / 65536; missing = h % 65536; it = recordOf a d e } ∷ hs) (set-first ws i m (le-of-suc-le-suc l)))
+set-first (h ∷ a ∷ d ∷ e ∷ ws) (suc i) m l = rw on₀ (ap (λ (hs : List Row). record { slot = h / 65536; note = h % 65536; it = recordOf a d e } ∷ hs) (set-first ws i m (le-of-suc-le-suc l)))
 
--- the first word of row i set sets its slot and its missing count
-pub set-head : (ws : List ℕ) (i s n : ℕ) → n < 65536 → i < length (hand ws) → hand (set ws (i * rowWords) (headOf s n)) ≡ set (hand ws) i (record { slot = s; missing = n; it = itAt (hand ws) i })
+-- the first word of row i set sets its slot and its note
+pub set-head : (ws : List ℕ) (i s n : ℕ) → n < 65536 → i < length (hand ws) → hand (set ws (i * rowWords) (headOf s n)) ≡ set (hand ws) i (record { slot = s; note = n; it = itAt (hand ws) i })
 set-head ws i s n b l = set-first ws i (headOf s n) l ∙ rw (digits-div s {m = 65536} {r = n} b, digits-mod s {m = 65536} {r = n} b)
 
 -- the other words of row i set set its record
@@ -94,7 +94,7 @@ set-it (h ∷ []) i v l = absurd (not-suc-le-zero l)
 set-it (h ∷ a ∷ []) i v l = absurd (not-suc-le-zero l)
 set-it (h ∷ a ∷ d ∷ []) i v l = absurd (not-suc-le-zero l)
 set-it (h ∷ a ∷ d ∷ e ∷ ws) zero v l = refl
-set-it (h ∷ a ∷ d ∷ e ∷ ws) (suc i) v l = rw (on i 1, on i 2, on₁ i) (ap (λ (hs : List Row). record { slot = h / 65536; missing = h % 65536; it = recordOf a d e } ∷ hs) (set-it ws i v (le-of-suc-le-suc l)))
+set-it (h ∷ a ∷ d ∷ e ∷ ws) (suc i) v l = rw (on i 1, on i 2, on₁ i) (ap (λ (hs : List Row). record { slot = h / 65536; note = h % 65536; it = recordOf a d e } ∷ hs) (set-it ws i v (le-of-suc-le-suc l)))
 
 -- the first rows are those of the first words
 pub take-hand : (m : ℕ) (ws : List ℕ) → m ≤ length (hand ws) → hand (take (m * rowWords) ws) ≡ take m (hand ws)
@@ -104,7 +104,7 @@ take-hand (suc m) [] l = absurd (not-suc-le-zero l)
 take-hand (suc m) (h ∷ []) l = absurd (not-suc-le-zero l)
 take-hand (suc m) (h ∷ a ∷ []) l = absurd (not-suc-le-zero l)
 take-hand (suc m) (h ∷ a ∷ d ∷ []) l = absurd (not-suc-le-zero l)
-take-hand (suc m) (h ∷ a ∷ d ∷ e ∷ ws) l = rw on₀ (ap (λ (hs : List Row). record { slot = h / 65536; missing = h % 65536; it = recordOf a d e } ∷ hs) (take-hand m ws (le-of-suc-le-suc l)))
+take-hand (suc m) (h ∷ a ∷ d ∷ e ∷ ws) l = rw on₀ (ap (λ (hs : List Row). record { slot = h / 65536; note = h % 65536; it = recordOf a d e } ∷ hs) (take-hand m ws (le-of-suc-le-suc l)))
 
 -- a record whose fields have their widths comes back from its words
 pub fits : (v : Record) → v .stream < 256 → v .«in_use» < 256 → v .snbase < 65536 → v .«length_recovery» < 65536 → v .«payload_length» < 65536 → fit v ≡ v

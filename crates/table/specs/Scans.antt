@@ -104,7 +104,7 @@ later {hs} h o = let l : o .at < length hs = o .inside in record { at = suc (o .
 row-from : {t : List Record} {k q : ℕ} {hs : List Row} → Apart t k q hs → (r : ℕ) → q ≤ r → r < k → (Free t r → ⊥) → RowOf hs r
 row-from done r g l n = absurd (omega arith)
 row-from {t} {k} {q} (free f d) r g l n = ⊎-elim (λ e. absurd (n (subst (Free t) e f))) (λ h. row-from d r h l n) (eq-or-lt-of-le g)
-row-from {t} {k} {q} (held hs c v d) r g l n = ⊎-elim (λ e. record { at = 0; inside = omega arith; is = e }) (λ h. later (record { slot = q; missing = c; it = v }) (row-from d r h l n)) (eq-or-lt-of-le g)
+row-from {t} {k} {q} (held hs c v d) r g l n = ⊎-elim (λ e. record { at = 0; inside = omega arith; is = e }) (λ h. later (record { slot = q; note = c; it = v }) (row-from d r h l n)) (eq-or-lt-of-le g)
 
 -- a record of the scattered table that is not free has a row
 pub row-of : {t : List Record} {k : ℕ} {hs : List Row} → Fits t k hs → (r : ℕ) → r < k → (getD (scatter hs t) r blank .«in_use» ≡ 0 → ⊥) → RowOf hs r

@@ -1,27 +1,27 @@
--- The hand: the records in use, each with its slot in the table and how many of its group are missing, as some words hold them.
+-- The hand: the records in use, each with its slot in the table and a note of what the last look at its group found, as some words hold them.
 use mathlib.Core.List.{List, [], _∷_}
 use Prim.Native.Nat.{ℕ, _+_, _*_, _/_, _%_}
 use lib.ListN.{getD, set}
 use Rattle.window.specs.declared.Record.{Record}
 use Rattle.window.specs.Record.{blank}
 
--- a record with its slot and its missing count
+-- a record with its slot and its note
 pub record Row : Type 0 where
   pub slot : ℕ
-  pub missing : ℕ
+  pub note : ℕ
   pub it : Record
 
 -- the row that is read where there is none
 abbrev pub nobody : Row
-nobody = record { slot = 0; missing = 0; it = blank }
+nobody = record { slot = 0; note = 0; it = blank }
 
 -- how many words a row has
 abbrev pub rowWords : ℕ
 rowWords = 4
 
--- the first word of a row: its slot, and its missing count in the lower 16 bits
-abbrev pub headOf : (slot missing : ℕ) → ℕ
-headOf slot missing = slot * 65536 + missing
+-- the first word of a row: its slot, and its note in the lower 16 bits
+abbrev pub headOf : (slot note : ℕ) → ℕ
+headOf slot note = slot * 65536 + note
 
 -- the second word of a row: the stream in the lowest 8 bits, then the mark, then SNBase
 abbrev pub groupOf : Record → ℕ
@@ -43,13 +43,13 @@ recordOf a d e =
       «payload_length» = e / 65536 % 65536;
     }
 
--- the hand of some words, four to a row: the slot and the missing count; the stream, the mark and SNBase; the timestamp recovery; the lengths
+-- the hand of some words, four to a row: the slot and the note; the stream, the mark and SNBase; the timestamp recovery; the lengths
 unfoldable pub hand : List ℕ → List Row
 hand [] = []
 hand (h ∷ []) = []
 hand (h ∷ a ∷ []) = []
 hand (h ∷ a ∷ d ∷ []) = []
-hand (h ∷ a ∷ d ∷ e ∷ ws) = record { slot = h / 65536; missing = h % 65536; it = recordOf a d e } ∷ hand ws
+hand (h ∷ a ∷ d ∷ e ∷ ws) = record { slot = h / 65536; note = h % 65536; it = recordOf a d e } ∷ hand ws
 
 -- the record of the three words from i on
 abbrev pub wordsAt : List ℕ → ℕ → Record
@@ -67,9 +67,9 @@ fit v = recordOf (groupOf v) (v .«timestamp_recovery») (lengthsOf v)
 abbrev pub slotAt : List Row → ℕ → ℕ
 slotAt hs i = getD hs i nobody .slot
 
--- the missing count of row i
-abbrev pub missingAt : List Row → ℕ → ℕ
-missingAt hs i = getD hs i nobody .missing
+-- the note of row i
+abbrev pub noteAt : List Row → ℕ → ℕ
+noteAt hs i = getD hs i nobody .note
 
 -- the record of row i
 abbrev pub itAt : List Row → ℕ → Record
@@ -77,11 +77,11 @@ itAt hs i = getD hs i nobody .it
 
 -- row i has another record
 abbrev pub put : List Row → ℕ → Record → List Row
-put hs i v = set hs i (record { slot = slotAt hs i; missing = missingAt hs i; it = v })
+put hs i v = set hs i (record { slot = slotAt hs i; note = noteAt hs i; it = v })
 
--- row i has another missing count
-abbrev pub putMissing : List Row → ℕ → ℕ → List Row
-putMissing hs i n = set hs i (record { slot = slotAt hs i; missing = n; it = itAt hs i })
+-- row i has another note
+abbrev pub putNote : List Row → ℕ → ℕ → List Row
+putNote hs i n = set hs i (record { slot = slotAt hs i; note = n; it = itAt hs i })
 
 -- the slots of a hand
 unfoldable pub slots : List Row → List ℕ

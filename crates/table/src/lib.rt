@@ -1,18 +1,42 @@
-// The records in use, each with its slot and how many of its group are missing: one slice of words, four to a row, seen through one view, `hand`.
+// The records in use, each with its slot and a note of what the last look at its group found: one slice of words, four to a row, seen through
+// one view, `hand`.
+use window::Look;
 use window::Record;
 ghost use mathlib.Core.Path.{_≡_};
 ghost use mathlib.Core.Bool.{true, false};
 ghost use mathlib.Core.List.{List, []};
-ghost use Prim.Native.Nat.{_+_, _-_, _/_, _%_, _<_, _≤_};
+ghost use Prim.Native.Nat.{_+_, _/_, _%_, _<_, _≤_};
 ghost use lib.ListN.{length, set, take};
 ghost use Rattle.window.specs.declared.Record.{Record};
-ghost use Rattle.table.specs.View.{Row, hand, wordsAt, putWords, fit, slotAt, missingAt, itAt, put, putMissing, scatter};
+ghost use Rattle.table.specs.View.{Row, hand, wordsAt, putWords, fit, slotAt, noteAt, itAt, put, putNote, scatter};
+ghost use Rattle.table.specs.Note.{noteOf};
 ghost use Rattle.table.specs.Apart.{Within};
 ghost use Rattle.table.specs.Hold.{FirstFree, Shifted, holdIn};
 ghost use Rattle.table.specs.Gather.{more, gathered, Gathered, wiped};
 
-// How many words a row has: one for its slot and its missing count, three for its record.
+// How many words a row has: one for its slot and its note, three for its record.
 pub const ROW: usize = 4;
+
+// The note of a look that finds none missing.
+pub const NOTE_NONE: usize = 0;
+
+// The note of a look that finds more than one missing.
+pub const NOTE_MORE: usize = 1;
+
+// The note of a look that finds one missing, at position 0; any other position is added.
+pub const NOTE_ONE: usize = 2;
+
+// The note of a look.
+pub fn note_of(a: Look) -> usize
+    requires { ⌜ noteOf a < 65536 ⌝ }
+    ensures { λ n. ⌜ n ≡ noteOf a ⌝ }
+{
+    match a {
+        Look::None(_) => NOTE_NONE,
+        Look::One(i, _) => i + NOTE_ONE,
+        Look::More(_) => NOTE_MORE,
+    }
+}
 
 // A word as a size.
 fn wide32(x: u32) -> usize
@@ -92,7 +116,7 @@ fn put_words(rows: &mut [u32], i: usize, v: Record)
 // The first word of row i.
 fn head(rows: &[u32], i: usize) -> u32
     requires { ⌜ i < length (hand (now rows)) ⌝ }
-    ensures { λ h. ⌜ (h / 65536 ≡ slotAt (hand (now (rows .entry))) i) × (h % 65536 ≡ missingAt (hand (now (rows .entry))) i) ⌝ }
+    ensures { λ h. ⌜ (h / 65536 ≡ slotAt (hand (now (rows .entry))) i) × (h % 65536 ≡ noteAt (hand (now (rows .entry))) i) ⌝ }
 {
     rows[i * ROW]
 }
@@ -105,10 +129,10 @@ fn slot_word(rows: &[u32], i: usize) -> u32
     upper(head(rows, i))
 }
 
-// The missing count of row i as a word.
-fn missing_word(rows: &[u32], i: usize) -> u32
+// The note of row i as a word.
+fn note_word(rows: &[u32], i: usize) -> u32
     requires { ⌜ i < length (hand (now rows)) ⌝ }
-    ensures { λ n. ⌜ (n ≡ missingAt (hand (now (rows .entry))) i) × (n < 65536) ⌝ }
+    ensures { λ n. ⌜ (n ≡ noteAt (hand (now (rows .entry))) i) × (n < 65536) ⌝ }
 {
     lower(head(rows, i))
 }
@@ -121,12 +145,12 @@ pub fn slot_at(rows: &[u32], i: usize) -> usize
     wide32(slot_word(rows, i))
 }
 
-// How many of the group of row i are missing.
-pub fn missing_at(rows: &[u32], i: usize) -> usize
+// The note of row i.
+pub fn note_at(rows: &[u32], i: usize) -> usize
     requires { ⌜ i < length (hand (now rows)) ⌝ }
-    ensures { λ n. ⌜ n ≡ missingAt (hand (now (rows .entry))) i ⌝ }
+    ensures { λ n. ⌜ n ≡ noteAt (hand (now (rows .entry))) i ⌝ }
 {
-    wide32(missing_word(rows, i))
+    wide32(note_word(rows, i))
 }
 
 // The record of row i.
@@ -137,38 +161,21 @@ pub fn record_at(rows: &[u32], i: usize) -> Record
     words_at(rows, i * ROW + 1)
 }
 
-// The slot and the missing count of row i are set.
+// The slot and the note of row i are set.
 fn put_head(rows: &mut [u32], i: usize, s: u32, n: u32)
     requires { ⌜ (i < length (hand (now rows))) × (s < 65536) × (n < 65536) ⌝ }
-    ensures { λ _. ⌜ hand (now (rows .exit)) ≡ set (hand (now (rows .entry))) i (record { slot = s; missing = n; it = itAt (hand (now (rows .entry))) i }) ⌝ }
+    ensures { λ _. ⌜ hand (now (rows .exit)) ≡ set (hand (now (rows .entry))) i (record { slot = s; note = n; it = itAt (hand (now (rows .entry))) i }) ⌝ }
 {
     rows[i * ROW] = s * 65536 + n;
 }
 
-// The missing count of row i is set.
-pub fn put_missing(rows: &mut [u32], i: usize, missing: usize)
-    requires { ⌜ (i < length (hand (now rows))) × (missing < 65536) ⌝ }
-    ensures { λ _. ⌜ hand (now (rows .exit)) ≡ putMissing (hand (now (rows .entry))) i missing ⌝ }
+// The note of row i is set.
+pub fn put_note(rows: &mut [u32], i: usize, note: usize)
+    requires { ⌜ (i < length (hand (now rows))) × (note < 65536) ⌝ }
+    ensures { λ _. ⌜ hand (now (rows .exit)) ≡ putNote (hand (now (rows .entry))) i note ⌝ }
 {
     let s = slot_word(rows, i);
-    put_head(rows, i, s, narrow32(missing));
-}
-
-// One less, but not below 0.
-fn less(n: u32) -> u32
-    ensures { λ r. ⌜ (r ≡ n - 1) × (r ≤ n) ⌝ }
-{
-    if n == 0 { 0 } else { n - 1 }
-}
-
-// One less of the group of row i is missing.
-pub fn lower_missing(rows: &mut [u32], i: usize)
-    requires { ⌜ i < length (hand (now rows)) ⌝ }
-    ensures { λ _. ⌜ hand (now (rows .exit)) ≡ putMissing (hand (now (rows .entry))) i (missingAt (hand (now (rows .entry))) i - 1) ⌝ }
-{
-    let s = slot_word(rows, i);
-    let n = missing_word(rows, i);
-    put_head(rows, i, s, less(n));
+    put_head(rows, i, s, narrow32(note));
 }
 
 // The record of row i is set to v.
@@ -179,10 +186,10 @@ pub fn put_record(rows: &mut [u32], i: usize, v: Record)
     put_words(rows, i * ROW + 1, v);
 }
 
-// Row i is set to v at slot s with n missing.
+// Row i is set to v at slot s with note n.
 pub fn put_row(rows: &mut [u32], i: usize, s: u32, n: u32, v: Record)
     requires { ⌜ (i < length (hand (now rows))) × (s < 65536) × (n < 65536) ⌝ }
-    ensures { λ _. ⌜ hand (now (rows .exit)) ≡ set (hand (now (rows .entry))) i (record { slot = s; missing = n; it = v }) ⌝ }
+    ensures { λ _. ⌜ hand (now (rows .exit)) ≡ set (hand (now (rows .entry))) i (record { slot = s; note = n; it = v }) ⌝ }
 {
     put_head(rows, i, s, n);
     put_record(rows, i, v);
@@ -216,7 +223,7 @@ fn shift(rows: &mut [u32], r: usize, m: usize)
     let mut i = m;
     while r < i {
         let s = slot_word(rows, i - 1);
-        let n = missing_word(rows, i - 1);
+        let n = note_word(rows, i - 1);
         let v = record_at(rows, i - 1);
         put_row(rows, i, s, n, v);
         i -= 1;

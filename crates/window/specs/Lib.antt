@@ -3,6 +3,7 @@ pub mod Limits
 pub mod Store
 pub mod Bounds
 pub mod Group
+pub mod Look
 pub mod Plain
 pub mod Order
 pub mod InOrder

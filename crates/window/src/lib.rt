@@ -2,15 +2,16 @@
 ghost use mathlib.Core.Path.{_≡_};
 ghost use mathlib.Core.Bool.{true, cond, not, _&&_, _||_};
 ghost use Prim.Native.Nat.{_+_, _*_, _<_, _≤_};
-ghost use lib.Dec.{eqb, ltb};
+ghost use lib.Dec.{eqb, leb, ltb};
 ghost use lib.ListN.{length, getD};
 ghost use Rattle.answer.specs.First.{first};
 ghost use Rattle.sequence.specs.Lists.{upTo, all, count};
-ghost use Rattle.window.specs.Limits.{mostSide, mostMatrix, mostPositions, mostRecords, oneToSeven, setUpTests};
+ghost use Rattle.window.specs.Limits.{mostSide, mostMatrix, mostPositions, mostRecords, leastMissing, oneToSeven, setUpTests};
 ghost use Rattle.window.specs.Record.{blank};
 ghost use Rattle.window.specs.Store.{shortSizes};
 ghost use Rattle.window.specs.Bounds.{SetUp};
 ghost use Rattle.window.specs.Group.{inside};
+ghost use Rattle.window.specs.Look.{atLeast};
 ghost use Rattle.window.specs.Order.{isMark, isPresent, marksGood, lengthsGood, shapeGood};
 
 // Most columns, and most rows, of a parity matrix.
@@ -81,6 +82,39 @@ pub fn free_record() -> Record
         timestamp_recovery: 0,
         length_recovery: 0,
         payload_length: 0,
+    }
+}
+
+// What a look at the members of a group finds, in their order and up to the second that is missing; the last number is how
+// many members it visited.
+pub enum Look {
+    // none is missing
+    None(usize),
+    // one is missing: its position
+    One(usize, usize),
+    // more are missing
+    More(usize),
+}
+
+// As many are missing as a parity packet in hand has to wait for.
+pub fn waits(a: Look) -> bool
+    ensures { λ r. ⌜ r ≡ leb leastMissing (atLeast a) ⌝ }
+{
+    match a {
+        Look::None(_) => LEAST_MISSING <= 0,
+        Look::One(_, _) => LEAST_MISSING <= 1,
+        Look::More(_) => LEAST_MISSING <= 2,
+    }
+}
+
+// One or more are missing.
+pub fn lacks(a: Look) -> bool
+    ensures { λ r. ⌜ r ≡ ltb 0 (atLeast a) ⌝ }
+{
+    match a {
+        Look::None(_) => false,
+        Look::One(_, _) => true,
+        Look::More(_) => true,
     }
 }
 

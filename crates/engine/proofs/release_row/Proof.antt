@@ -16,14 +16,14 @@ same-length c = search needs
 returns : tie.Need-returns
 returns c = rw (← c .before .before .record-at .ensures, ne-eqb (c .before .before .record-at .result .«in_use») 1 (c .if1 .taken))
 
-missing-at-requires : tie.Need-missing-at-requires
-missing-at-requires c κs = search needs
+note-at-requires : tie.Need-note-at-requires
+note-at-requires c κs = search needs
 
 same-length-2 : tie.Need-same-length-2
 same-length-2 c = search needs
 
 returns-2 : tie.Need-returns-2
-returns-2 c = rw (← c .before .before .before .before .before .record-at .ensures, eq-eqb (c .before .before .before .before .before .record-at .result .«in_use») 1 (c .before .before .before .if1 .left), ← c .before .missing-at .ensures, ne-eqb (c .before .missing-at .result) 0 (c .if2 .taken))
+returns-2 c = rw (← c .before .before .before .before .before .record-at .ensures, eq-eqb (c .before .before .before .before .before .record-at .result .«in_use») 1 (c .before .before .before .if1 .left), ← c .before .note-at .ensures, ne-eqb (c .before .note-at .result) 0 (c .if2 .taken))
 
 free-row-requires : tie.Need-free-row-requires
 free-row-requires c κs = (c .before .before .before .before .before .before .before .before .before .before .before .pre .0, c .before .before .before .before .before .before .before .before .before .before .before .pre .1 (ap (λ (v : Record). used v) (sym (c .before .before .before .before .before .before .before .record-at .ensures)) ∙ eq-eqb (c .before .before .before .before .before .before .before .record-at .result .«in_use») 1 (c .before .before .before .before .before .if1 .left)), c .before .before .before .before .before .before .before .before .before .before .before .pre .2)
@@ -35,7 +35,7 @@ same-length-4 : tie.Need-same-length-4
 same-length-4 c = search needs
 
 returns-3 : tie.Need-returns-3
-returns-3 c = rw (c .before .before .before .before .free-row .ensures, ← c .before .before .before .before .before .before .before .before .before .before .before .before .record-at .ensures, eq-eqb (c .before .before .before .before .before .before .before .before .before .before .before .before .record-at .result .«in_use») 1 (c .before .before .before .before .before .before .before .before .before .before .if1 .left), ← c .before .before .before .before .before .before .before .before .missing-at .ensures, eq-eqb (c .before .before .before .before .before .before .before .before .missing-at .result) 0 (c .before .before .before .before .before .before .before .if2 .left))
+returns-3 c = rw (c .before .before .before .before .free-row .ensures, ← c .before .before .before .before .before .before .before .before .before .before .before .before .record-at .ensures, eq-eqb (c .before .before .before .before .before .before .before .before .before .before .before .before .record-at .result .«in_use») 1 (c .before .before .before .before .before .before .before .before .before .before .if1 .left), ← c .before .before .before .before .before .before .before .before .note-at .ensures, eq-eqb (c .before .before .before .before .before .before .before .before .note-at .result) 0 (c .before .before .before .before .before .before .before .if2 .left))
 
 pub release-row-spec : {M : Type 1} → statement M
 release-row-spec =
@@ -44,7 +44,7 @@ release-row-spec =
     record-at-requires
     same-length
     returns
-    missing-at-requires
+    note-at-requires
     same-length-2
     returns-2
     free-row-requires

@@ -7,14 +7,14 @@ use Rattle.engine.proofs.row_ready.Tie as tie
 record-at-requires : tie.Need-record-at-requires
 record-at-requires c κs = search needs
 
-missing-at-requires : tie.Need-missing-at-requires
-missing-at-requires c κs = search needs
+note-at-requires : tie.Need-note-at-requires
+note-at-requires c κs = search needs
 
 returns : tie.Need-returns
 returns c =
     let the-record-at = c .before .before .record-at in
-    let the-missing-at = c .missing-at in
-    rw (the-record-at .ensures, the-missing-at .ensures)
+    let the-note-at = c .note-at in
+    rw (the-record-at .ensures, the-note-at .ensures)
 
 pub row-ready-spec : {M : Type 1} → statement M
-row-ready-spec = tie.close (tie.spec record-at-requires missing-at-requires returns)
+row-ready-spec = tie.close (tie.spec record-at-requires note-at-requires returns)

@@ -68,8 +68,8 @@ returns-3 c =
     let the-if3 = c .before .if3 in
     rw (the-refused-place3 .ensures) (no-15 (the-args .w) (the-args .stream) (the-args .datagram .now) (the-args .marks .now) (the-args .parity .now) (hand (the-args .rows .now)) (the-args .m) (the-pre .3) (the-snbase .result) (the-snbase .ensures) (sym (the-group-inside .ensures) ∙ not-false _ (the-if1 .left)) (the-any-same .result) (the-any-same .ensures) (the-if2 .left) (the-any-holds .result) (the-any-holds .ensures) (the-if3 .taken))
 
-count-missing-requires : tie.Need-count-missing-requires
-count-missing-requires c κs =
+look-requires : tie.Need-look-requires
+look-requires c κs =
     let the-pre = c .before .before .before .before .before .before .before .before .before .before .before .pre in
     let the-args = c .before .before .before .before .before .before .before .before .before .before .before .args in
     let the-good = c .before .before .before .before .before .before .before .before .before .before .before .good in
@@ -78,12 +78,30 @@ count-missing-requires c κs =
     let the-if1 = c .before .before .before .before .if1 in
     (the-pre .0, inside-of (the-args .w) (omega (arith, the-good)) (the-pre .0) (the-args .stream) (the-snbase .result) (sym (the-group-inside .ensures) ∙ not-false _ (the-if1 .left)), the-pre .1)
 
+waits-requires : tie.Need-waits-requires
+waits-requires c κs = search needs
+
 refused-place-requires-4 : tie.Need-refused-place-requires-4
 refused-place-requires-4 c κs = search needs
 
 returns-4 : tie.Need-returns-4
 returns-4 c =
     let the-refused-place4 = c .refused-place4 in
+    let the-args = c .before .before .before .before .before .before .before .before .before .before .before .before .before .before .before .before .args in
+    let the-pre = c .before .before .before .before .before .before .before .before .before .before .before .before .before .before .before .before .pre in
+    let the-snbase = c .before .before .before .before .before .before .before .before .before .before .before .snbase in
+    let the-group-inside = c .before .before .before .before .before .before .before .before .before .before .group-inside in
+    let the-if1 = c .before .before .before .before .before .before .before .before .before .if1 in
+    let the-any-same = c .before .before .before .before .before .before .before .before .any-same in
+    let the-if2 = c .before .before .before .before .before .before .before .if2 in
+    let the-any-holds = c .before .before .before .before .before .before .any-holds in
+    let the-if3 = c .before .before .before .before .before .if3 in
+    let the-look = c .before .before .before .before .look in
+    let the-if4 = c .before .if4 in
+    rw (the-refused-place4 .ensures) (no-16 (the-args .w) (the-args .stream) (the-args .datagram .now) (the-args .marks .now) (the-args .parity .now) (hand (the-args .rows .now)) (the-args .m) (the-pre .3) (the-snbase .result) (the-snbase .ensures) (sym (the-group-inside .ensures) ∙ not-false _ (the-if1 .left)) (the-any-same .result) (the-any-same .ensures) (the-if2 .left) (the-any-holds .result) (the-any-holds .ensures) (the-if3 .left) (the-look .result) (the-look .ensures .0) (c .before .before .before .waits .result) (c .before .before .before .waits .ensures) (the-if4 .taken))
+
+returns-5 : tie.Need-returns-5
+returns-5 c =
     let the-args = c .before .before .before .before .before .before .before .before .before .before .before .before .before .before .before .args in
     let the-pre = c .before .before .before .before .before .before .before .before .before .before .before .before .before .before .before .pre in
     let the-snbase = c .before .before .before .before .before .before .before .before .before .before .snbase in
@@ -93,25 +111,10 @@ returns-4 c =
     let the-if2 = c .before .before .before .before .before .before .if2 in
     let the-any-holds = c .before .before .before .before .before .any-holds in
     let the-if3 = c .before .before .before .before .if3 in
-    let the-count-missing = c .before .before .before .count-missing in
-    let the-if4 = c .before .if4 in
-    rw (the-refused-place4 .ensures) (no-16 (the-args .w) (the-args .stream) (the-args .datagram .now) (the-args .marks .now) (the-args .parity .now) (hand (the-args .rows .now)) (the-args .m) (the-pre .3) (the-snbase .result) (the-snbase .ensures) (sym (the-group-inside .ensures) ∙ not-false _ (the-if1 .left)) (the-any-same .result) (the-any-same .ensures) (the-if2 .left) (the-any-holds .result) (the-any-holds .ensures) (the-if3 .left) (the-count-missing .result) (the-count-missing .ensures) (the-if4 .taken))
-
-returns-5 : tie.Need-returns-5
-returns-5 c =
-    let the-args = c .before .before .before .before .before .before .before .before .before .before .before .before .before .before .args in
-    let the-pre = c .before .before .before .before .before .before .before .before .before .before .before .before .before .before .pre in
-    let the-snbase = c .before .before .before .before .before .before .before .before .before .snbase in
-    let the-group-inside = c .before .before .before .before .before .before .before .before .group-inside in
-    let the-if1 = c .before .before .before .before .before .before .before .if1 in
-    let the-any-same = c .before .before .before .before .before .before .any-same in
-    let the-if2 = c .before .before .before .before .before .if2 in
-    let the-any-holds = c .before .before .before .before .any-holds in
-    let the-if3 = c .before .before .before .if3 in
-    let the-count-missing = c .before .before .count-missing in
-    let the-good = c .before .before .before .before .before .before .before .before .before .before .before .before .before .before .good in
+    let the-look = c .before .before .before .look in
+    let the-good = c .before .before .before .before .before .before .before .before .before .before .before .before .before .before .before .good in
     let the-if4 = c .if4 in
-    none-of-them (the-args .w) (the-args .stream) (the-args .datagram .now) (the-args .marks .now) (the-args .parity .now) (hand (the-args .rows .now)) (the-args .m) (the-pre .3) (the-snbase .result) (the-snbase .ensures) (sym (the-group-inside .ensures) ∙ not-false _ (the-if1 .left)) (the-any-same .result) (the-any-same .ensures) (the-if2 .left) (the-any-holds .result) (the-any-holds .ensures) (the-if3 .left) (the-count-missing .result) (the-count-missing .ensures) (omega (arith, the-good)) (the-pre .0) (the-if4 .left)
+    none-of-them (the-args .w) (the-args .stream) (the-args .datagram .now) (the-args .marks .now) (the-args .parity .now) (hand (the-args .rows .now)) (the-args .m) (the-pre .3) (the-snbase .result) (the-snbase .ensures) (sym (the-group-inside .ensures) ∙ not-false _ (the-if1 .left)) (the-any-same .result) (the-any-same .ensures) (the-if2 .left) (the-any-holds .result) (the-any-holds .ensures) (the-if3 .left) (the-look .result) (the-look .ensures .0) (c .before .before .waits .result) (c .before .before .waits .ensures) (omega (arith, the-good)) (the-pre .0) (the-if4 .left)
 
 pub parity-place-fault-spec : {M : Type 1} → statement M
-parity-place-fault-spec = tie.close (tie.spec snbase-requires group-inside-requires refused-place-requires returns any-same-requires refused-place-requires-2 returns-2 any-holds-requires refused-place-requires-3 returns-3 count-missing-requires refused-place-requires-4 returns-4 returns-5)
+parity-place-fault-spec = tie.close (tie.spec snbase-requires group-inside-requires refused-place-requires returns any-same-requires refused-place-requires-2 returns-2 any-holds-requires refused-place-requires-3 returns-3 look-requires waits-requires refused-place-requires-4 returns-4 returns-5)

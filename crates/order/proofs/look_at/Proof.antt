@@ -1,10 +1,11 @@
 -- `order::look_at` meets its contract: each return by the tests that led there. Assumes nothing.
-use mathlib.Core.Path.{_≡_, sym, ap, _∙_}
+use mathlib.Core.Path.{sym, ap, _∙_}
 use borrow.Author.Tests.{not-false}
 use Rattle.sequence.specs.Lists.{upTo, any}
 use Rattle.rtp.specs.Length.{goodLength}
 use Rattle.window.specs.declared.Record.{Record}
 use Rattle.table.specs.View.{hand}
+use Rattle.table.specs.Note.{note-low}
 use Rattle.order.specs.Rows.{names}
 use Rattle.order.proofs.Look.{free-row, odd-row, high-row, shapeless-row, lengthless-row, repeated-row, waiting-row, shape-inside}
 use native.Mathlib.Omega.{arith}
@@ -75,13 +76,19 @@ returns-6 c =
     let a = c .before .before .before .before .before .before .before .before .before .before .before .before .before .before .before .before .before .before .args in
     repeated-row (a .w) (a .marks .now) (hand (a .rows .now)) (a .i) (c .before .before .before .before .before .before .before .before .before .before .before .before .before .before .before .record-at .result) (c .before .before .before .before .before .before .before .before .before .before .before .before .before .before .before .record-at .ensures) (c .bad5 .result) (c .bad5 .ensures) (c .before .before .before .before .before .before .before .before .before .before .before .if2 .left) (c .before .before .repeats .result) (c .before .before .repeats .ensures) (c .before .if6 .taken)
 
-count-missing-requires : tie.Need-count-missing-requires
-count-missing-requires c κs = (c .before .before .before .before .before .before .before .before .before .before .before .before .before .before .before .before .before .pre .0, shape-inside (c .before .before .before .before .before .before .before .before .before .before .before .before .before .before .before .before .before .args .w) (omega (arith, c .before .before .before .before .before .before .before .before .before .before .before .before .before .before .before .before .before .good)) (c .before .before .before .before .before .before .before .before .before .before .before .before .before .before .before .before .before .pre .0) (c .before .before .before .before .before .before .before .before .before .before .before .before .before .before .record-at .result .stream) (c .before .before .before .before .before .before .before .before .before .before .before .before .before .before .record-at .result .snbase) (sym (c .before .before .before .before .before .before .shape-good .ensures) ∙ not-false _ (c .before .before .before .before .before .if4 .left)), c .before .before .before .before .before .before .before .before .before .before .before .before .before .before .before .before .before .pre .1)
+look-requires : tie.Need-look-requires
+look-requires c κs = (c .before .before .before .before .before .before .before .before .before .before .before .before .before .before .before .before .before .pre .0, shape-inside (c .before .before .before .before .before .before .before .before .before .before .before .before .before .before .before .before .before .args .w) (omega (arith, c .before .before .before .before .before .before .before .before .before .before .before .before .before .before .before .before .before .good)) (c .before .before .before .before .before .before .before .before .before .before .before .before .before .before .before .before .before .pre .0) (c .before .before .before .before .before .before .before .before .before .before .before .before .before .before .record-at .result .stream) (c .before .before .before .before .before .before .before .before .before .before .before .before .before .before .record-at .result .snbase) (sym (c .before .before .before .before .before .before .shape-good .ensures) ∙ not-false _ (c .before .before .before .before .before .if4 .left)), c .before .before .before .before .before .before .before .before .before .before .before .before .before .before .before .before .before .pre .1)
+
+waits-requires : tie.Need-waits-requires
+waits-requires c κs = search needs
+
+note-of-requires : tie.Need-note-of-requires
+note-of-requires c κs = omega (arith, note-low (c .before .look .result) (c .before .before .before .before .before .before .before .before .before .before .before .before .before .before .before .before .before .before .before .args .w .n) (c .before .look .ensures .1), c .before .before .before .before .before .before .before .before .before .before .before .before .before .before .before .before .before .before .before .pre .0 .n-high)
 
 returns-7 : tie.Need-returns-7
 returns-7 c =
-    let a = c .before .before .before .before .before .before .before .before .before .before .before .before .before .before .before .before .before .before .args in
-    waiting-row (a .w) (a .marks .now) (hand (a .rows .now)) (a .i) (c .before .before .before .before .before .before .before .before .before .before .before .before .before .before .before .record-at .result) (c .before .before .before .before .before .before .before .before .before .before .before .before .before .before .before .record-at .ensures) (c .before .before .before .before .before .before .before .before .before .before .before .before .before .before .before .before .before .before .pre .0) (omega (arith, c .before .before .before .before .before .before .before .before .before .before .before .before .before .before .before .before .before .before .good)) (c .before .before .before .before .before .before .before .before .before .before .before .if2 .left) (c .before .before .before .before .before .before .before .before .before .before .slot-at .result) (c .before .before .before .before .before .before .before .before .before .before .slot-at .ensures) (c .before .before .before .before .before .before .before .before .if3 .left) (c .before .before .before .before .before .before .before .shape-good .result) (c .before .before .before .before .before .before .before .shape-good .ensures) (c .before .before .before .before .before .before .if4 .left) (c .before .before .before .before .good-length .result) (c .before .before .before .before .good-length .ensures ∙ ap (goodLength (a .w .p)) (c .before .before .before .before .before .wide .ensures .0)) (c .before .before .before .if5 .left) (c .before .before .repeats .result) (c .before .before .repeats .ensures) (c .before .if6 .left) (c .count-missing .result) (c .count-missing .ensures)
+    let a = c .before .before .before .before .before .before .before .before .before .before .before .before .before .before .before .before .before .before .before .before .args in
+    waiting-row (a .w) (a .marks .now) (hand (a .rows .now)) (a .i) (c .before .before .before .before .before .before .before .before .before .before .before .before .before .before .before .before .before .record-at .result) (c .before .before .before .before .before .before .before .before .before .before .before .before .before .before .before .before .before .record-at .ensures) (c .before .before .before .before .before .before .before .before .before .before .before .before .before .before .before .before .before .before .before .before .pre .0) (omega (arith, c .before .before .before .before .before .before .before .before .before .before .before .before .before .before .before .before .before .before .before .before .good)) (c .before .before .before .before .before .before .before .before .before .before .before .before .before .if2 .left) (c .before .before .before .before .before .before .before .before .before .before .before .before .slot-at .result) (c .before .before .before .before .before .before .before .before .before .before .before .before .slot-at .ensures) (c .before .before .before .before .before .before .before .before .before .before .if3 .left) (c .before .before .before .before .before .before .before .before .before .shape-good .result) (c .before .before .before .before .before .before .before .before .before .shape-good .ensures) (c .before .before .before .before .before .before .before .before .if4 .left) (c .before .before .before .before .before .before .good-length .result) (c .before .before .before .before .before .before .good-length .ensures ∙ ap (goodLength (a .w .p)) (c .before .before .before .before .before .before .before .wide .ensures .0)) (c .before .before .before .before .before .if5 .left) (c .before .before .before .before .repeats .result) (c .before .before .before .before .repeats .ensures) (c .before .before .before .if6 .left) (c .before .before .look .result) (c .before .before .look .ensures .0) (c .before .waits .result) (c .before .waits .ensures) (c .note-of .result) (c .note-of .ensures) (omega (arith, note-low (c .before .before .look .result) (c .before .before .before .before .before .before .before .before .before .before .before .before .before .before .before .before .before .before .before .before .args .w .n) (c .before .before .look .ensures .1), c .before .before .before .before .before .before .before .before .before .before .before .before .before .before .before .before .before .before .before .before .pre .0 .n-high, c .note-of .ensures))
 
 pub look-at-spec : {M : Type 1} → statement M
 look-at-spec =
@@ -104,5 +111,7 @@ look-at-spec =
     repeats-requires
     bad-requires-5
     returns-6
-    count-missing-requires
+    look-requires
+    waits-requires
+    note-of-requires
     returns-7)

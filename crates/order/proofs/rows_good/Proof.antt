@@ -1,4 +1,4 @@
--- `order::rows_good` meets its contract: after i turns the first i rows are looked at, and their missing noted. Assumes nothing.
+-- `order::rows_good` meets its contract: after i turns the first i rows are looked at, and what is found noted. Assumes nothing.
 use mathlib.Core.Path.{_≡_, refl, ap, _∙_}
 use mathlib.Core.Bool.{true}
 use Prim.Native.Nat.{_-_, _%_, _≤_}
@@ -54,8 +54,8 @@ look-at-requires c κs =
 array-write-seen : tie.Need-array-write-seen Inv-loop μ-loop
 array-write-seen c = search needs
 
-put-missing-requires : tie.Need-put-missing-requires Inv-loop μ-loop
-put-missing-requires c κs =
+put-note-requires : tie.Need-put-note-requires Inv-loop μ-loop
+put-note-requires c κs =
     let the-pre = c .before .before .before .before .before .before .before .before .before .before .pre in
     let the-loop = c .before .before .before .before .before .before .loop in
     let the-look-at = c .before .look-at in
@@ -67,7 +67,7 @@ add-used c =
     let the-args = c .before .before .before .before .before .before .before .before .before .before .before .before .before .before .before .args in
     let the-loop = c .before .before .before .before .before .before .before .before .before .before .before .loop in
     let the-look-at = c .before .before .before .before .before .before .look-at in
-    omega (arith, the-fits .m, few-turned (the-args .w) (the-args .marks .now) (hand (the-args .rows .now)) (hand (the-loop .rows)) (the-loop .good) (the-loop .used) (the-loop .i) (the-loop .inv .1) (the-look-at .result .good) (the-look-at .result .used) (the-look-at .result .missing) (the-look-at .ensures))
+    omega (arith, the-fits .m, few-turned (the-args .w) (the-args .marks .now) (hand (the-args .rows .now)) (hand (the-loop .rows)) (the-loop .good) (the-loop .used) (the-loop .i) (the-loop .inv .1) (the-look-at .result .good) (the-look-at .result .used) (the-look-at .result .note) (the-look-at .ensures))
 
 add-i : tie.Need-add-i Inv-loop μ-loop
 add-i c = search needs
@@ -81,9 +81,9 @@ loop-again c =
     let the-loop = c .before .before .before .before .before .before .before .before .before .before .before .loop in
     let the-look-at = c .before .before .before .before .before .before .look-at in
     let the-pre = c .before .before .before .before .before .before .before .before .before .before .before .before .before .before .before .pre in
-    let the-put-missing = c .before .before .before .before .put-missing in
+    let the-put-note = c .before .before .before .before .put-note in
     let the-seen-at = c .before .before .before .before .before .before .before .before .seen-at in
-    (omega arith, turned (the-args .w) (the-args .marks .now) (hand (the-args .rows .now)) (hand (the-loop .rows)) (the-loop .good) (the-loop .used) (the-loop .i) (the-loop .inv .1) (the-look-at .result .good) (the-look-at .result .used) (the-look-at .result .missing) (the-look-at .ensures) (omega (arith, the-pre .2, alike-length (the-loop .inv .1 .alike))) (hand (the-put-missing .last .0)) (the-put-missing .ensures), omega arith, length-set (the-loop .seen) _ _ ∙ the-loop .inv .3, more-seen (hand (the-args .rows .now)) (the-loop .seen) (the-loop .i) (the-seen-at .result) (the-seen-at .ensures .0 ∙ ap (λ (v : Record). v .snbase % 512) (alike-it (the-loop .inv .1 .alike) (the-loop .i))) (omega (arith, the-seen-at .ensures .1, the-loop .inv .3)) (the-loop .inv .4))
+    (omega arith, turned (the-args .w) (the-args .marks .now) (hand (the-args .rows .now)) (hand (the-loop .rows)) (the-loop .good) (the-loop .used) (the-loop .i) (the-loop .inv .1) (the-look-at .result .good) (the-look-at .result .used) (the-look-at .result .note) (the-look-at .ensures) (omega (arith, the-pre .2, alike-length (the-loop .inv .1 .alike))) (hand (the-put-note .last .0)) (the-put-note .ensures), omega arith, length-set (the-loop .seen) _ _ ∙ the-loop .inv .3, more-seen (hand (the-args .rows .now)) (the-loop .seen) (the-loop .i) (the-seen-at .result) (the-seen-at .ensures .0 ∙ ap (λ (v : Record). v .snbase % 512) (alike-it (the-loop .inv .1 .alike) (the-loop .i))) (omega (arith, the-seen-at .ensures .1, the-loop .inv .3)) (the-loop .inv .4))
 
 same-length : tie.Need-same-length Inv-loop μ-loop
 same-length c = search needs
@@ -96,4 +96,4 @@ returns-2 c =
     ended (the-args .w) (the-args .marks .now) (hand (the-args .rows .now)) (hand (the-loop .rows)) (the-loop .good) (the-loop .used) (the-loop .i) (the-loop .inv .1) (the-args .m) (omega arith) (the-pre .2)
 
 pub rows-good-spec : {M : Type 1} → statement M
-rows-good-spec = tie.close (tie.spec Inv-loop μ-loop returns loop-holds seen-at-requires array-read-look-at look-at-requires array-write-seen put-missing-requires add-used add-i loop-less loop-again same-length returns-2)
+rows-good-spec = tie.close (tie.spec Inv-loop μ-loop returns loop-holds seen-at-requires array-read-look-at look-at-requires array-write-seen put-note-requires add-used add-i loop-less loop-again same-length returns-2)

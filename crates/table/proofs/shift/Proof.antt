@@ -19,7 +19,7 @@ abbrev μ-loop : tie.MeasureT-loop
 μ-loop rows₀ r m i₀ rows i = i
 
 -- a row is its three parts
-same-row : (s n : ℕ) (v : Record) (h : Row) → s ≡ h .slot → n ≡ h .missing → v ≡ h .it → record { slot = s; missing = n; it = v } ≡ h
+same-row : (s n : ℕ) (v : Record) (h : Row) → s ≡ h .slot → n ≡ h .note → v ≡ h .it → record { slot = s; note = n; it = v } ≡ h
 same-row s n v h e f g = rw (e, f, g)
 
 -- what has moved at the end
@@ -35,11 +35,11 @@ sub-slot-word c = omega arith
 slot-word-requires : tie.Need-slot-word-requires Inv-loop μ-loop
 slot-word-requires c κs = omega (arith, c .before .before .loop .inv .2 .long, c .before .before .before .before .pre .1)
 
-sub-missing-word : tie.Need-sub-missing-word Inv-loop μ-loop
-sub-missing-word c = omega arith
+sub-note-word : tie.Need-sub-note-word Inv-loop μ-loop
+sub-note-word c = omega arith
 
-missing-word-requires : tie.Need-missing-word-requires Inv-loop μ-loop
-missing-word-requires c κs = omega (arith, c .before .before .before .before .loop .inv .2 .long, c .before .before .before .before .before .before .pre .1)
+note-word-requires : tie.Need-note-word-requires Inv-loop μ-loop
+note-word-requires c κs = omega (arith, c .before .before .before .before .loop .inv .2 .long, c .before .before .before .before .before .before .pre .1)
 
 sub-record-at : tie.Need-sub-record-at Inv-loop μ-loop
 sub-record-at c = omega arith
@@ -48,7 +48,7 @@ record-at-requires : tie.Need-record-at-requires Inv-loop μ-loop
 record-at-requires c κs = omega (arith, c .before .before .before .before .before .before .loop .inv .2 .long, c .before .before .before .before .before .before .before .before .pre .1)
 
 put-row-requires : tie.Need-put-row-requires Inv-loop μ-loop
-put-row-requires c κs = (omega (arith, c .before .before .before .before .before .before .before .before .loop .inv .2 .long, c .before .before .before .before .before .before .before .before .before .before .pre .1), c .before .before .before .before .before .slot-word .ensures .1, c .before .before .before .missing-word .ensures .1)
+put-row-requires c κs = (omega (arith, c .before .before .before .before .before .before .before .before .loop .inv .2 .long, c .before .before .before .before .before .before .before .before .before .before .pre .1), c .before .before .before .before .before .slot-word .ensures .1, c .before .before .before .note-word .ensures .1)
 
 sub-i : tie.Need-sub-i Inv-loop μ-loop
 sub-i c = omega arith
@@ -61,7 +61,7 @@ loop-again c = let a = c .before .before .before .before .before .before .before
     let l = c .before .before .before .before .before .before .before .before .before .before .before .loop in (
       omega arith,
       omega arith,
-      shift-more (a .m) (hand (a .rows .now)) (c .before .before .before .before .before .before .before .before .before .before .before .before .before .pre .1) (l .i) (hand (l .rows)) _ (omega arith) (l .inv .1) (l .inv .2) (c .before .before .put-row .ensures ∙ ap (set (hand (l .rows)) (l .i)) (same-row _ _ _ (getD (hand (l .rows)) (l .i - 1) nobody) (c .before .before .before .before .before .before .before .before .slot-word .ensures .0) (c .before .before .before .before .before .before .missing-word .ensures .0) (c .before .before .before .before .record-at .ensures))),
+      shift-more (a .m) (hand (a .rows .now)) (c .before .before .before .before .before .before .before .before .before .before .before .before .before .pre .1) (l .i) (hand (l .rows)) _ (omega arith) (l .inv .1) (l .inv .2) (c .before .before .put-row .ensures ∙ ap (set (hand (l .rows)) (l .i)) (same-row _ _ _ (getD (hand (l .rows)) (l .i - 1) nobody) (c .before .before .before .before .before .before .before .before .slot-word .ensures .0) (c .before .before .before .before .before .before .note-word .ensures .0) (c .before .before .before .before .record-at .ensures))),
       omega arith,
     )
 
@@ -72,4 +72,4 @@ returns : tie.Need-returns Inv-loop μ-loop
 returns c = let a = c .before .before .before .args in at-r (c .before .loop .i) (a .r) (a .m) (hand (a .rows .now)) _ (omega arith) (c .before .loop .inv .2)
 
 pub shift-spec : {M : Type 1} → statement M
-shift-spec = tie.close (tie.spec Inv-loop μ-loop loop-holds sub-slot-word slot-word-requires sub-missing-word missing-word-requires sub-record-at record-at-requires put-row-requires sub-i loop-less loop-again same-length returns)
+shift-spec = tie.close (tie.spec Inv-loop μ-loop loop-holds sub-slot-word slot-word-requires sub-note-word note-word-requires sub-record-at record-at-requires put-row-requires sub-i loop-less loop-again same-length returns)
