@@ -145,8 +145,31 @@ fn places(w: &Window, stream: u8, snbase: u16) -> Option<Vec<usize>> {
     }
 }
 
-fn missing(s: &Store, places: &[usize]) -> Vec<usize> {
-    places.iter().copied().filter(|&i| s.marks[i] == 0).collect()
+/// Whether none, one (and which) or more of a group are missing (02, request 3).
+#[derive(Clone, Copy, Debug, PartialEq)]
+enum Missing {
+    None,
+    One(usize),
+    More,
+}
+
+/// Goes through the members in their order and stops at the second that is missing. Answers what it found, and how many members
+/// it visited: up to that one, or all.
+fn look(s: &Store, places: &[usize]) -> (Missing, usize) {
+    let mut found = Missing::None;
+    for (j, &i) in places.iter().enumerate() {
+        if s.marks[i] == 0 {
+            match found {
+                Missing::None => found = Missing::One(i),
+                _ => return (Missing::More, j + 1),
+            }
+        }
+    }
+    (found, places.len())
+}
+
+fn missing(s: &Store, places: &[usize]) -> Missing {
+    look(s, places).0
 }
 
 /// The transport packets that P is made of: no P is a multiple of both sizes.
@@ -219,7 +242,7 @@ fn check_order(w: &Window, s: &Store) -> Result<(), u32> {
         no_if(!good_length(w, u64::from(record.payload_length)), 5)?;
         match places(w, record.stream, record.snbase) {
             None => return Err(5),
-            Some(places) => no_if(missing(s, &places).len() < 2, 5)?,
+            Some(places) => no_if(missing(s, &places) != Missing::More, 5)?,
         }
         for other in &records[..i] {
             no_if(other.in_use == 1 && other.stream == record.stream && other.snbase == record.snbase, 5)?;
@@ -317,7 +340,7 @@ fn judge_parity(w: &Window, stream: u8, datagram: &[u8], s: &Store) -> Result<Ve
         }
     }
     let free = s.records[..w.k as usize].iter().any(|record| record.in_use == 0);
-    no_if(missing(s, &places).len() >= 2 && !free, 16)?;
+    no_if(missing(s, &places) == Missing::More && !free, 16)?;
     Ok(places)
 }
 
@@ -362,30 +385,29 @@ fn release(w: &Window, s: &mut Store, i: usize) {
 /// Releases what is spent, lets the first of those that are ready rebuild, and begins again. One that is spoilt is released.
 /// Answers how many packets were rebuilt, and how many were spoilt.
 fn settle(w: &Window, s: &mut Store) -> (u64, u64) {
-    let mut first: Option<(u64, u8, usize)> = None;
+    let mut first: Option<(u64, u8, usize, usize)> = None;
     for i in 0..w.k as usize {
         let record = s.records[i];
         if record.in_use == 0 {
             continue;
         }
         let places = places(w, record.stream, record.snbase).expect("a record in order");
-        match missing(s, &places).len() {
-            0 => release(w, s, i),
-            1 => {
-                let candidate = (position(w, record.snbase), record.stream, i);
+        match missing(s, &places) {
+            Missing::None => release(w, s, i),
+            Missing::One(lost) => {
+                let candidate = (position(w, record.snbase), record.stream, i, lost);
                 if first.is_none() || candidate < first.unwrap() {
                     first = Some(candidate);
                 }
             }
-            _ => {}
+            Missing::More => {}
         }
     }
     match first {
         None => (0, 0),
-        Some((_, stream, i)) => {
+        Some((_, stream, i, lost)) => {
             let record = s.records[i];
             let places = places(w, stream, record.snbase).expect("a record in order");
-            let lost = missing(s, &places)[0];
             let bytes = payload(s.parity, w, i, record.payload_length).to_vec();
             let recovery = Recovery { timestamp: record.timestamp_recovery, length: record.length_recovery, payload: bytes };
             let good = rebuild(w, s, &places, lost, &recovery);
@@ -436,14 +458,14 @@ fn parity(w: Window, stream: u8, datagram: &[u8], s: &mut Store) -> Answer {
     let recovery = Recovery { timestamp: four(datagram, 20), length: two(datagram, 14), payload: datagram[28..].to_vec() };
     let lost = missing(s, &places);
     let (mut count, mut spoilt) = (0, 0);
-    if lost.len() == 1 {
-        if rebuild(&w, s, &places, lost[0], &recovery) {
+    if let Missing::One(lost) = lost {
+        if rebuild(&w, s, &places, lost, &recovery) {
             count = 1;
         } else {
             spoilt = 1;
         }
     }
-    if lost.len() >= 2 {
+    if lost == Missing::More {
         let free = (0..w.k as usize).find(|&i| s.records[i].in_use == 0).expect("16 is ruled out");
         s.records[free] = Record {
             stream,
@@ -511,7 +533,7 @@ fn parity_bytes(w: &Window, stream: u8, snbase: u16, stamp: Stamp, s: &Store, ou
     check_store(w, s, Some((out_len, 28)))?;
     no_if(stream == ROW && w.l < 4, 12)?;
     let places = places(w, stream, snbase).ok_or(13u32)?;
-    no_if(!missing(s, &places).is_empty(), 17)?;
+    no_if(missing(s, &places) != Missing::None, 17)?;
     let (mut length, mut payload_type, mut timestamp) = (0u16, 0u8, 0u32);
     let longest = places.iter().map(|&i| s.lengths[i]).max().unwrap_or(0);
     let mut recovery = vec![0; usize::from(longest)];
@@ -662,6 +684,25 @@ mod tests {
         assert_eq!(media(w, &packet(0, 1, 188), &mut held.lend()).number, 0);
         assert_eq!(held.records[3].stream, 200);
         assert_eq!((held.timestamps[2], held.lengths[2]), (5, 6));
+    }
+
+    #[test]
+    fn a_look_stops_at_the_second_missing() {
+        let mut held = Held::new(16, 8, 188);
+        for na in 1..=10 {
+            let places: Vec<usize> = (0..na).map(|j| (7 * j + 3) % 16).collect();
+            for pattern in 0..1u32 << na {
+                held.marks.fill(1);
+                let lost: Vec<usize> = (0..na).filter(|j| pattern >> j & 1 == 1).collect();
+                lost.iter().for_each(|&j| held.marks[places[j]] = 0);
+                let expected = match lost[..] {
+                    [] => (Missing::None, na),
+                    [j] => (Missing::One(places[j]), na),
+                    [_, j, ..] => (Missing::More, j + 1),
+                };
+                assert_eq!(look(&held.lend(), &places), expected);
+            }
+        }
     }
 
     /// A row of four with 1, 3, 2 and 2 units of 188, and its parity; the first is missing.
