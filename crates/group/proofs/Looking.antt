@@ -1,5 +1,5 @@
 -- A look in two stretches, each up to a member that is missing: what is passed, one member more, and what was found. Assumes nothing.
-use mathlib.Core.Path.{_≡_, refl, sym, ap, _∙_}
+use mathlib.Core.Path.{_≡_, refl, sym, ap, subst, _∙_}
 use mathlib.Core.Bool.{true, false}
 use mathlib.Core.List.{List, [], _∷_, _++_, map}
 use mathlib.Core.Logic.{⊎-elim}
@@ -13,7 +13,7 @@ use Rattle.sequence.specs.Lists.{upTo, map-append, length-upTo}
 use Rattle.window.specs.declared.Look.the-variants.{None, One, More}
 use Rattle.window.specs.Group.{isMissing, missing}
 use Rattle.window.specs.Look.{toFirst, toSecond, look}
-use Rattle.group.specs.Along.{memberAt, along, rest, Next}
+use Rattle.group.specs.Along.{memberAt, along, rest, Passed, Next}
 
 -- ---- the members that are left
 module _ (f : ℕ → ℕ) where
@@ -50,19 +50,11 @@ module _ (marks : List ℕ) (base snbase offset na : ℕ) where
   abbrev at : ℕ → ℕ
   at j = memberAt base snbase offset j
 
-  -- where j members were passed since index `from`, none of them missing
-  pub record Passed (from j : ℕ) : Type 0 where
-    pub start : from ≤ j
-    pub end : j ≤ na
-    pub same-missing : missing marks (left from) ≡ missing marks (left j)
-    pub to-first : from + toFirst marks (left from) ≡ j + toFirst marks (left j)
-    pub to-second : from + toSecond marks (left from) ≡ j + toSecond marks (left j)
-
-  pub passed-none : (from : ℕ) → from ≤ na → Passed from from
+  pub passed-none : (from : ℕ) → from ≤ na → Passed marks base snbase offset na from from
   passed-none from h = record { start = omega arith; end = h; same-missing = refl; to-first = refl; to-second = refl }
 
   -- one member more
-  pub passed-more : (from j : ℕ) → j < na → isMissing marks (at j) ≡ false → Passed from j → Passed from (j + 1)
+  pub passed-more : (from j : ℕ) → j < na → isMissing marks (at j) ≡ false → Passed marks base snbase offset na from j → Passed marks base snbase offset na from (j + 1)
   passed-more from j l e p =
       let d : left j ≡ at j ∷ left (j + 1) = rw (add-one j) (left-more at na j l) in
       record {
@@ -74,21 +66,14 @@ module _ (marks : List ℕ) (base snbase offset na : ℕ) where
       }
 
   -- a member that is missing ends it
-  pub passed-to : (from j : ℕ) → isMissing marks (at j) ≡ true → Passed from j → Next marks base snbase offset na from j
-  passed-to from j e p = record { start = p .start; end = p .end; here = λ l. e; same-missing = p .same-missing; to-first = p .to-first; to-second = p .to-second }
+  pub passed-to : (from j : ℕ) → isMissing marks (at j) ≡ true → Passed marks base snbase offset na from j → Next marks base snbase offset na from j
+  passed-to from j e p = record { passed = p; here = λ _. e }
 
   -- and so does the last one
-  pub passed-all : (from j : ℕ) → na ≤ j → Passed from j → Next marks base snbase offset na from na
+  pub passed-all : (from j : ℕ) → na ≤ j → Passed marks base snbase offset na from j → Next marks base snbase offset na from na
   passed-all from j h p =
       let e : j ≡ na = omega (arith, p .end) in
-      record {
-        start = omega (arith, p .start);
-        end = omega arith;
-        here = λ l. absurd (omega (arith, l));
-        same-missing = p .same-missing ∙ ap (λ (k : ℕ). missing marks (left k)) e;
-        to-first = p .to-first ∙ ap (λ (k : ℕ). k + toFirst marks (left k)) e;
-        to-second = p .to-second ∙ ap (λ (k : ℕ). k + toSecond marks (left k)) e;
-      }
+      record { passed = subst (Passed marks base snbase offset na from) e p; here = λ l. absurd (omega (arith, l)) }
 
   none-left : left na ≡ []
   none-left = left-none at na na (omega arith)
@@ -96,8 +81,8 @@ module _ (marks : List ℕ) (base snbase offset na : ℕ) where
   -- none was missing
   pub found-none : (first : ℕ) → first ≡ na → Next marks base snbase offset na 0 first → None na ≡ look marks (along base snbase offset na)
   found-none first z h =
-      let m : missing marks (left 0) ≡ [] = h .same-missing ∙ ap (λ (k : ℕ). missing marks (left k)) z ∙ ap (missing marks) none-left in
-      let t : toSecond marks (left 0) ≡ na = let e = h .to-second ∙ ap (λ (k : ℕ). k + toSecond marks (left k)) z ∙ ap (λ (g : List ℕ). na + toSecond marks g) none-left in omega (arith, e) in
+      let m : missing marks (left 0) ≡ [] = h .passed .same-missing ∙ ap (λ (k : ℕ). missing marks (left k)) z ∙ ap (missing marks) none-left in
+      let t : toSecond marks (left 0) ≡ na = let e = h .passed .to-second ∙ ap (λ (k : ℕ). k + toSecond marks (left k)) z ∙ ap (λ (g : List ℕ). na + toSecond marks g) none-left in omega (arith, e) in
       sym (rw (m, t))
 
   -- one was: the member at index `first`
@@ -106,18 +91,18 @@ module _ (marks : List ℕ) (base snbase offset na : ℕ) where
     apart = rw (add-one first) (left-more at na first l)
 
     missing-from : missing marks (left 0) ≡ at first ∷ missing marks (left (first + 1))
-    missing-from = h .same-missing ∙ ap (missing marks) apart ∙ rw (h .here l)
+    missing-from = h .passed .same-missing ∙ ap (missing marks) apart ∙ rw (h .here l)
 
     second-from : toSecond marks (left 0) ≡ first + 1 + toFirst marks (left (first + 1))
     second-from =
         let e : first + toSecond marks (left first) ≡ first + suc (toFirst marks (left (first + 1))) = ap (λ (g : List ℕ). first + toSecond marks g) apart ∙ rw (h .here l) in
-        omega (arith, h .to-second, e)
+        omega (arith, h .passed .to-second, e)
 
     module _ (second : ℕ) (n : Next marks base snbase offset na (first + 1) second) where
       pub found-one : second ≡ na → (i : ℕ) → i ≡ at first → One i na ≡ look marks (along base snbase offset na)
       found-one z i e =
-          let m : missing marks (left 0) ≡ at first ∷ [] = missing-from ∙ ap (λ (g : List ℕ). at first ∷ g) (n .same-missing ∙ ap (λ (k : ℕ). missing marks (left k)) z ∙ ap (missing marks) none-left) in
-          let f = n .to-first ∙ ap (λ (k : ℕ). k + toFirst marks (left k)) z ∙ ap (λ (g : List ℕ). na + toFirst marks g) none-left in
+          let m : missing marks (left 0) ≡ at first ∷ [] = missing-from ∙ ap (λ (g : List ℕ). at first ∷ g) (n .passed .same-missing ∙ ap (λ (k : ℕ). missing marks (left k)) z ∙ ap (missing marks) none-left) in
+          let f = n .passed .to-first ∙ ap (λ (k : ℕ). k + toFirst marks (left k)) z ∙ ap (λ (g : List ℕ). na + toFirst marks g) none-left in
           let t : toSecond marks (left 0) ≡ na = omega (arith, second-from, f) in
           sym (rw (m, t, e))
 
@@ -125,7 +110,7 @@ module _ (marks : List ℕ) (base snbase offset na : ℕ) where
       pub found-more : second < na → More (second + 1) ≡ look marks (along base snbase offset na)
       found-more k =
           let d : left second ≡ at second ∷ left (second + 1) = rw (add-one second) (left-more at na second k) in
-          let m : missing marks (left 0) ≡ at first ∷ at second ∷ missing marks (left (second + 1)) = missing-from ∙ ap (λ (g : List ℕ). at first ∷ g) (n .same-missing ∙ ap (missing marks) d ∙ rw (n .here k)) in
+          let m : missing marks (left 0) ≡ at first ∷ at second ∷ missing marks (left (second + 1)) = missing-from ∙ ap (λ (g : List ℕ). at first ∷ g) (n .passed .same-missing ∙ ap (missing marks) d ∙ rw (n .here k)) in
           let f : toFirst marks (left second) ≡ 1 = ap (toFirst marks) d ∙ rw (n .here k) in
-          let t : toSecond marks (left 0) ≡ second + 1 = omega (arith, second-from, n .to-first, f) in
+          let t : toSecond marks (left 0) ≡ second + 1 = omega (arith, second-from, n .passed .to-first, f) in
           sym (rw (m, t))

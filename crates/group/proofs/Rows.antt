@@ -1,5 +1,5 @@
 -- The members of a group that are present, as rows of the store: they lie in the window, so their rows lie in the media store. Assumes nothing.
-use mathlib.Core.Path.{_≡_, refl, sym, ap, ap₂, _∙_}
+use mathlib.Core.Path.{_≡_, refl, sym, ap, ap₂, subst, _∙_}
 use mathlib.Core.Bool.{Bool, true, false, cond, not}
 use mathlib.Core.List.{List, [], _∷_, _++_, map}
 use Prim.Native.Nat.{ℕ, zero, suc, _+_, _*_, _^_, _<_, _≤_}
@@ -18,8 +18,8 @@ use Rattle.window.specs.declared.Window.{Window}
 use Rattle.window.specs.Limits.{width, mostSide}
 use Rattle.window.specs.Bounds.{SetUp}
 use Rattle.window.specs.declared.Look.the-variants.{One}
-use Rattle.window.specs.Group.{group, isMissing, missing, present}
-use Rattle.window.specs.Look.{toSecond, lookBy, look}
+use Rattle.window.specs.Group.{group, isMissing, present}
+use Rattle.window.specs.Look.{look, one-missing}
 use Rattle.window.specs.Plain.{Inside, shape-of, place, group-plain}
 use Rattle.calls.specs.Content.{numberOver, payloadOver}
 use Rattle.group.specs.Along.{memberAt, along}
@@ -104,12 +104,7 @@ module _ (w : Window) (based : w .base < 2 ^ width) (u : SetUp w) (stream snbase
 
   -- the one position that a look finds lies in the window
   pub one-below : (marks : List ℕ) (i v : ℕ) → look marks (group w stream snbase) ≡ One i v → i < w .n
-  one-below marks i v = go (missing marks (group w stream snbase)) (kept-below (isMissing marks))
-    where
-      go : (l : List ℕ) → Below (w .n) l → lookBy l (toSecond marks (group w stream snbase)) ≡ One i v → i < w .n
-      go [] b e = let z : _≡_ {A = ℕ} 0 1 = cc in absurd (omega arith)
-      go (j ∷ []) b e = let z : j ≡ i = cc in omega (arith, b .0)
-      go (j ∷ k ∷ l) b e = let z : _≡_ {A = ℕ} 0 1 = cc in absurd (omega arith)
+  one-below marks i v e = subst (Below (w .n)) (one-missing marks (group w stream snbase) v i e) (kept-below (isMissing marks)) .0
 
 -- a recovery of `size` bytes, copied into zeros and added up there: the first p bytes are the exclusive-or of the recovery, with zeros up to p, and of what is held
 pub through : (p size from most : ℕ) (media lengths marks group recovery s t : List ℕ) → size ≤ p → p ≤ most → from + size ≤ length recovery

@@ -22,11 +22,15 @@ along base snbase offset na = map (memberAt base snbase offset) (upTo na)
 abbrev pub rest : (base snbase offset na j : ℕ) → List ℕ
 rest base snbase offset na j = drop j (along base snbase offset na)
 
--- from an index on, the first member that is missing is at index r, or none is and r is na: what is passed is visited, and not missing
+-- the members from an index up to j are visited, and none of them is missing
+pub record Passed (marks : List ℕ) (base snbase offset na from j : ℕ) : Type 0 where
+  pub start : from ≤ j
+  pub end : j ≤ na
+  pub same-missing : missing marks (rest base snbase offset na from) ≡ missing marks (rest base snbase offset na j)
+  pub to-first : from + toFirst marks (rest base snbase offset na from) ≡ j + toFirst marks (rest base snbase offset na j)
+  pub to-second : from + toSecond marks (rest base snbase offset na from) ≡ j + toSecond marks (rest base snbase offset na j)
+
+-- from an index on the first member that is missing is at index r, or none is, and r is na
 pub record Next (marks : List ℕ) (base snbase offset na from r : ℕ) : Type 0 where
-  pub start : from ≤ r
-  pub end : r ≤ na
+  pub passed : Passed marks base snbase offset na from r
   pub here : r < na → isMissing marks (memberAt base snbase offset r) ≡ true
-  pub same-missing : missing marks (rest base snbase offset na from) ≡ missing marks (rest base snbase offset na r)
-  pub to-first : from + toFirst marks (rest base snbase offset na from) ≡ r + toFirst marks (rest base snbase offset na r)
-  pub to-second : from + toSecond marks (rest base snbase offset na from) ≡ r + toSecond marks (rest base snbase offset na r)

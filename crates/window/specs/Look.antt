@@ -33,6 +33,14 @@ lookBy (i ∷ j ∷ more) v = More v
 abbrev pub look : (marks : List ℕ) → List ℕ → Look
 look marks g = lookBy (missing marks g) (toSecond marks g)
 
+-- how many are missing at least
+abbrev pub atLeast : Look → ℕ
+atLeast (None v) = 0
+atLeast (One i v) = 1
+atLeast (More v) = 2
+
+-- ---- what they say of each other
+
 -- what a look says of the missing
 module _ (marks g : List ℕ) (v : ℕ) where
   pub none-missing : look marks g ≡ None v → missing marks g ≡ []
@@ -58,12 +66,6 @@ module _ (marks g : List ℕ) (v : ℕ) where
       go [] e = let z : _≡_ {A = ℕ} 0 1 = cc in absurd (omega arith)
       go (i ∷ []) e = let z : _≡_ {A = ℕ} 0 1 = cc in absurd (omega arith)
       go (i ∷ j ∷ l) e = omega arith
-
--- how many are missing at least
-abbrev pub atLeast : Look → ℕ
-atLeast (None v) = 0
-atLeast (One i v) = 1
-atLeast (More v) = 2
 
 -- where a parity packet has to wait for two at most, the look tells whether enough are missing
 pub waits-is : (marks g : List ℕ) → leb leastMissing (atLeast (look marks g)) ≡ leb leastMissing (length (missing marks g))

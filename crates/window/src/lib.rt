@@ -96,26 +96,29 @@ pub enum Look {
     More(usize),
 }
 
+// How many are missing at least.
+fn at_least(a: Look) -> usize
+    ensures { λ r. ⌜ r ≡ atLeast a ⌝ }
+{
+    match a {
+        Look::None(_) => 0,
+        Look::One(_, _) => 1,
+        Look::More(_) => 2,
+    }
+}
+
 // As many are missing as a parity packet in hand has to wait for.
 pub fn waits(a: Look) -> bool
     ensures { λ r. ⌜ r ≡ leb leastMissing (atLeast a) ⌝ }
 {
-    match a {
-        Look::None(_) => LEAST_MISSING <= 0,
-        Look::One(_, _) => LEAST_MISSING <= 1,
-        Look::More(_) => LEAST_MISSING <= 2,
-    }
+    LEAST_MISSING <= at_least(a)
 }
 
 // One or more are missing.
 pub fn lacks(a: Look) -> bool
     ensures { λ r. ⌜ r ≡ ltb 0 (atLeast a) ⌝ }
 {
-    match a {
-        Look::None(_) => false,
-        Look::One(_, _) => true,
-        Look::More(_) => true,
-    }
+    0 < at_least(a)
 }
 
 // ---- refusals 1 to 3: the set-up numbers

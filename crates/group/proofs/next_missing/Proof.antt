@@ -5,8 +5,9 @@ use borrow.Author.Tests.{eq-eqb, ne-eqb}
 use Rattle.sequence.specs.Wrap.{member}
 use Rattle.window.specs.Limits.{width}
 use Rattle.window.specs.Group.{isMissing}
+use Rattle.group.specs.Along.{Passed}
 use Rattle.group.proofs.Along.{member-next, place-is}
-use Rattle.group.proofs.Looking.{Passed, passed-none, passed-more, passed-to, passed-all}
+use Rattle.group.proofs.Looking.{passed-none, passed-more, passed-to, passed-all}
 use native.Mathlib.Omega.{arith}
 use borrow.Author.Needs.{needs}
 use Rattle.group.proofs.next_missing.Statement.{statement}

@@ -1,25 +1,15 @@
--- `window::lacks` meets its contract: each arm by its variant. Assumes nothing.
+-- `window::lacks` meets its contract. Assumes nothing.
+use mathlib.Core.Path.{ap}
+use lib.Dec.{ltb}
 use borrow.Author.Needs.{needs}
 use Rattle.window.proofs.lacks.Statement.{statement}
 use Rattle.window.proofs.lacks.Tie as tie
 
-enum-told : tie.Need-enum-told
-enum-told c = search needs
-
-enum-told-2 : tie.Need-enum-told-2
-enum-told-2 c = search needs
-
-enum-told-3 : tie.Need-enum-told-3
-enum-told-3 c = search needs
+at-least-requires : tie.Need-at-least-requires
+at-least-requires c κs = search needs
 
 returns : tie.Need-returns
-returns c = rw (c .enum-told .given .1)
-
-returns-2 : tie.Need-returns-2
-returns-2 c = rw (c .enum-told2 .given .1)
-
-returns-3 : tie.Need-returns-3
-returns-3 c = rw (c .enum-told3 .given .1)
+returns c = ap (ltb 0) (c .at-least .ensures)
 
 pub lacks-spec : {M : Type 1} → statement M
-lacks-spec = tie.close (tie.spec enum-told enum-told-2 enum-told-3 returns returns-2 returns-3)
+lacks-spec = tie.close (tie.spec at-least-requires returns)
