@@ -22,7 +22,7 @@ pub struct Opened {
 }
 
 // Clears the first n numbers of 32 bits.
-fn zero32(dst: &mut [u32], n: usize)
+pub fn zero32(dst: &mut [u32], n: usize)
     requires { ⌜ n ≤ length (now dst) ⌝ }
     ensures { λ _. ⌜ now (dst .exit) ≡ zeroed n (now (dst .entry)) ⌝ }
 {
@@ -34,7 +34,7 @@ fn zero32(dst: &mut [u32], n: usize)
 }
 
 // Clears the first n numbers of 16 bits.
-fn zero16(dst: &mut [u16], n: usize)
+pub fn zero16(dst: &mut [u16], n: usize)
     requires { ⌜ n ≤ length (now dst) ⌝ }
     ensures { λ _. ⌜ now (dst .exit) ≡ zeroed n (now (dst .entry)) ⌝ }
 {

@@ -1,10 +1,10 @@
 -- The ways through `readOut` and `wroteParity`, each from what the code finds there. Assumes nothing.
 use mathlib.Core.Path.{_≡_, refl, sym, ap, ap₂, _∙_}
-use mathlib.Core.Bool.{Bool, true, false, cond, not}
+use mathlib.Core.Bool.{Bool, true, not}
 use mathlib.Core.List.{List, [], _∷_, _++_, map}
-use Prim.Native.Nat.{ℕ, _+_, _*_, _%_, _<_, _≤_}
+use Prim.Native.Nat.{ℕ, _+_, _*_, _<_, _≤_}
 use native.Mathlib.Omega.{arith}
-use lib.Dec.{eqb, ltb}
+use lib.Dec.{ltb}
 use lib.ListN.{length, getD, take, drop, length-drop}
 use lib.Seq.{paste, sets}
 use lib.Bits.{xor-zero-l}
@@ -13,7 +13,7 @@ use Rattle.answer.specs.declared.Answer.the-variants.{Done, Refused}
 use Rattle.answer.specs.First.{first, first-hit, first-past, first-end, first-none}
 use Rattle.xor.specs.Xor.{xorAll, xorPayloads, padded}
 use Rattle.rtp.specs.Rtp.{rtpHeaderSize, mediaType, parityType, rtpHeader}
-use Rattle.rtp.specs.Fec.{parityHeaderSize, fecHeader, fecBytes, offsetOf, naOf, byNa}
+use Rattle.rtp.specs.Fec.{parityHeaderSize, fecHeader}
 use Rattle.parity.specs.Own.{length-own, length-sum}
 use Rattle.window.specs.declared.Record.{Record}
 use Rattle.window.specs.declared.Sizes.{Sizes}
@@ -168,16 +168,3 @@ module _ (stream : ℕ) (w : Window) (snbase : ℕ) (o : Outer) (s : Store) (out
           ∙ ap (λ (t : List ℕ). sets t 0 (head lengths stamps)) (e1 ∙ ap (λ (l : List ℕ). paste out parityHeaderSize (x l) size) all)
           ∙ laid (head lengths stamps) (x these) out parityHeaderSize size refl (omega (arith, g .fits)) (omega arith))
           ∙ write-yes size (head lengths stamps ++ take size (x these)) ez′ is
-
--- ---- both headers, the one written behind the other
-pub headers-laid : (stream l d snbase size recovery sequence timestamp ssrc na offset kind : ℕ) (out one two : List ℕ) → na ≡ naOf stream l d → offset ≡ offsetOf stream l → kind ≡ byNa na mediaType
-    → one ≡ sets out 0 (rtpHeader parityType sequence timestamp ssrc) → two ≡ sets one rtpHeaderSize (fecBytes snbase size kind recovery stream offset na)
-    → two ≡ sets out 0 (rtpHeader parityType sequence timestamp ssrc ++ fecHeader stream l d snbase size recovery)
-headers-laid stream l d snbase size recovery sequence timestamp ssrc na offset kind out one two en eo ek e1 e2 = e2 ∙ rw (e1, ek, eo, en)
-
--- what a value leaves over a group is no more than the value
-pub byNa-le : (na v : ℕ) → byNa na v ≤ v
-byNa-le na v = go (eqb (na % 2) 0) where
-  go : (b : Bool) → cond b 0 v ≤ v
-  go true = omega arith
-  go false = omega arith

@@ -1,18 +1,14 @@
 // Reading out: a packet that the window holds as a media datagram, and a group that it holds whole as a parity datagram.
 // The records, which only refusal 5 looks at, are the m rows of a hand; the lent table has `len` of them.
 use answer::Answer;
-use group::Laid;
 use window::Sizes;
 use window::Window;
 ghost use mathlib.Core.Path.{_≡_};
-ghost use mathlib.Core.List.{List, _++_};
+ghost use mathlib.Core.List.{List};
 ghost use Prim.Native.Nat.{_+_, _≤_};
 ghost use lib.Dec.{ltb};
 ghost use lib.ListN.{length};
-ghost use lib.Seq.{sets};
 ghost use Rattle.answer.specs.First.{first};
-ghost use Rattle.rtp.specs.Rtp.{rtpHeader, parityType};
-ghost use Rattle.rtp.specs.Fec.{fecHeader};
 ghost use Rattle.window.specs.declared.Record.{Record};
 ghost use Rattle.window.specs.Store.{stored};
 ghost use Rattle.window.specs.Bounds.{SetUp};
@@ -117,36 +113,6 @@ fn group_fault(w: Window, stream: u8, snbase: u16, marks: &[u8]) -> u8
     0
 }
 
-// Both headers of a parity packet at the front of a buffer, by the window's profile, with the recovery of its lengths and timestamps.
-fn write_headers(
-    out: &mut [u8],
-    w: Window,
-    stream: u8,
-    snbase: u16,
-    r: Laid,
-    sequence: u16,
-    timestamp: u32,
-    ssrc: u32,
-)
-    requires { ⌜ SetUp w × (stream ≤ 1) × (28 ≤ length (now out)) ⌝ }
-    ensures { λ _. ⌜ now (out .exit) ≡ sets (now (out .entry)) 0 (rtpHeader parityType sequence timestamp ssrc ++ fecHeader stream (w .l) (w .d) snbase (r .length) (r .timestamp)) ⌝ }
-{
-    let na = rtp::na_of(stream, w.l, w.d);
-    let offset = rtp::offset_of(stream, w.l) as u8;
-    let kind = rtp::by_na(na, rtp::MEDIA_TYPE as usize) as u8;
-    rtp::write_rtp(out, rtp::PARITY_TYPE, sequence, timestamp, ssrc);
-    rtp::write_fec(
-        out,
-        snbase,
-        r.length,
-        kind,
-        r.timestamp,
-        stream,
-        offset,
-        na as u8,
-    );
-}
-
 // The parity packet of a group that is present, written to the front of `out`, with the caller's RTP numbers.
 pub fn write_parity(
     stream: u8,
@@ -202,6 +168,17 @@ pub fn write_parity(
         lengths,
         marks,
     );
-    write_headers(out, w, stream, snbase, r, sequence, timestamp, ssrc);
+    rtp::write_parity(
+        out,
+        stream,
+        w.l,
+        w.d,
+        snbase,
+        r.length,
+        r.timestamp,
+        sequence,
+        timestamp,
+        ssrc,
+    );
     Answer::Done(to + r.size, 0)
 }

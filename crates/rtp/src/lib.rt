@@ -1,7 +1,7 @@
 // RTP and parity headers: every field read and written, big-endian, and what is wrong with a datagram by itself.
 // Reading asks nothing of a datagram: a byte past its end reads as 0.
 ghost use mathlib.Core.Path.{_≡_};
-ghost use mathlib.Core.List.{[], _∷_};
+ghost use mathlib.Core.List.{[], _∷_, _++_};
 ghost use Prim.Native.Nat.{_+_, _/_, _%_, _<_, _≤_};
 ghost use lib.Dec.{eqb};
 ghost use lib.ListN.{length};
@@ -409,4 +409,27 @@ pub fn write_fec(
     put4(out, 16, 128 + kind, 0, 0, 0);
     put32(out, 20, stamps);
     put4(out, 24, stream * 64, offset, na, 0);
+}
+
+// Both headers of the parity packet of a group of a stream, by the profile, with the recovery of its lengths and timestamps.
+pub fn write_parity(
+    out: &mut [u8],
+    stream: u8,
+    l: usize,
+    d: usize,
+    snbase: u16,
+    size: u16,
+    stamps: u32,
+    sequence: u16,
+    timestamp: u32,
+    ssrc: u32,
+)
+    requires { ⌜ (28 ≤ length (now out)) × (stream ≤ 1) × (l ≤ 255) × (d ≤ 255) ⌝ }
+    ensures { λ _. ⌜ now (out .exit) ≡ sets (now (out .entry)) 0 (header.rtpHeader header.parityType sequence timestamp ssrc ++ fec.fecHeader stream l d snbase size stamps) ⌝ }
+{
+    let na = na_of(stream, l, d);
+    let offset = offset_of(stream, l) as u8;
+    let kind = by_na(na, MEDIA_TYPE as usize) as u8;
+    write_rtp(out, PARITY_TYPE, sequence, timestamp, ssrc);
+    write_fec(out, snbase, size, kind, stamps, stream, offset, na as u8);
 }

@@ -124,7 +124,7 @@ pub fn lacks(a: Look) -> bool
 // ---- refusals 1 to 3: the set-up numbers
 
 // 1: L, D or the matrix out of its limits.
-fn bad_profile(l: usize, d: usize) -> bool
+pub fn bad_profile(l: usize, d: usize) -> bool
     ensures { λ r. ⌜ r ≡ (ltb l 1 || ltb mostSide l || ltb d 4 || ltb mostSide d || ltb mostMatrix (l * d)) ⌝ }
 {
     if (l < 1) | (MOST_SIDE < l) | (d < 4) | (MOST_SIDE < d) {
@@ -142,7 +142,7 @@ fn one_to_seven(unit: usize, p: usize) -> bool
 }
 
 // 2: P not one to seven transport stream packets, of 188 or of 204 bytes.
-fn bad_payload(p: usize) -> bool
+pub fn bad_payload(p: usize) -> bool
     ensures { λ r. ⌜ r ≡ not (oneToSeven 188 p || oneToSeven 204 p) ⌝ }
 {
     !(one_to_seven(188, p) | one_to_seven(204, p))

@@ -64,11 +64,11 @@ sum-up-requires c κs =
       s .lengths-low,
     )
 
-write-headers-requires : tie.Need-write-headers-requires
-write-headers-requires c κs =
+write-parity-requires : tie.Need-write-parity-requires
+write-parity-requires c κs =
     let a = c .before .before .before .before .before .before .before .before .before .before .before .before .before .before .before .before .before .before .before .args in
     let s = c .before .before .before .before .before .before .before .before .before .before .standing .ensures .none (c .before .before .before .before .before .before .before .if1 .left) in
-    (s .set-up, omega (arith, c .before .before .before .before .before .before .before .before .before .before .before .before .before .before .before .before .before .before .before .pre .0), omega (arith, c .before .before .before .sum-up .kept, ltb-false (length (a .out .now)) (28 + a .w .p) (s .fits)))
+    (omega (arith, c .before .before .before .sum-up .kept, ltb-false (length (a .out .now)) (28 + a .w .p) (s .fits)), omega (arith, c .before .before .before .before .before .before .before .before .before .before .before .before .before .before .before .before .before .before .before .pre .0), omega (arith, s .set-up .profile .l-high), omega (arith, s .set-up .profile .d-high))
 
 add-t29 : tie.Need-add-t29
 add-t29 c = omega (arith, c .before .before .before .before .before .before .before .sum-up .ensures .3, c .before .before .before .before .before .before .before .before .before .before .before .before .before .before .standing .ensures .none (c .before .before .before .before .before .before .before .before .before .before .before .if1 .left) .set-up .p-high)
@@ -89,7 +89,7 @@ returns-3 c =
     let lent : List Record → Store = λ t. stored (a .media .now) (a .timestamps .now) (a .lengths .now) (a .marks .now) (a .parity .now) (scatter hs t) in
     let o : Outer = record { sequence = a .sequence; timestamp = a .timestamp; ssrc = a .ssrc } in
     let e = said (a .w) (a .media .now) (a .timestamps .now) (a .lengths .now) (a .marks .now) (a .parity .now) (a .len) hs _ (length (a .out .now)) (28 + a .w .p) (f .result) (f .ensures) in
-    λ t l k. write-done (a .stream) (a .w) (a .snbase) o (lent t) (a .out .now) (f .result) (c .before .before .before .before .before .before .before .before .before .before .before .if1 .left) (own .result) (own .ensures) (e t l k) (c .before .before .before .before .before .before .before .before .before .if2 .left) (x .result .timestamp) (x .result .length) (x .result .size) _ _ (x .ensures .0) (x .ensures .1) (x .ensures .2) (x .ensures .3) (x .ensures .4) (c .before .before .before .write-headers .ensures)
+    λ t l k. write-done (a .stream) (a .w) (a .snbase) o (lent t) (a .out .now) (f .result) (c .before .before .before .before .before .before .before .before .before .before .before .if1 .left) (own .result) (own .ensures) (e t l k) (c .before .before .before .before .before .before .before .before .before .if2 .left) (x .result .timestamp) (x .result .length) (x .result .size) _ _ (x .ensures .0) (x .ensures .1) (x .ensures .2) (x .ensures .3) (x .ensures .4) (c .before .before .before .write-parity .ensures)
 
 pub write-parity-spec : {M : Type 1} → statement M
 write-parity-spec =
@@ -102,7 +102,7 @@ write-parity-spec =
     same-length-2
     returns-2
     sum-up-requires
-    write-headers-requires
+    write-parity-requires
     add-t29
     same-length-3
     same-length-4
