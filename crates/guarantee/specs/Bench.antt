@@ -20,7 +20,7 @@ use Rattle.calls.specs.Datagram.{mediaPacket, Outer, parityPacket}
 use Rattle.calls.specs.State.{rebuild}
 use Rattle.calls.specs.Settle.{next, releaseAll, round, settle}
 use Rattle.calls.specs.Call.{Outcome, asked, opened, offeredMedia, offeredParity}
-use Rattle.guarantee.specs.Arrangement.{alignedRows, alignedColumns, staggeredColumn}
+use Rattle.schedule.specs.Arrangement.{alignedRows, alignedColumns, staggeredColumn}
 
 -- a case: its number, what the definitions give, and what the document says
 pub record Case : Type 0 where

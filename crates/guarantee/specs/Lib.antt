@@ -3,7 +3,6 @@ pub mod Start
 pub mod Demand2
 pub mod Waiting
 pub mod Zero
-pub mod Arrangement
 pub mod Bench
 pub mod Night
 pub mod Spoilt
