@@ -1,0 +1,4 @@
+pub mod Sums
+pub mod Call
+pub mod Ready
+pub mod Absorbed
