@@ -3,7 +3,8 @@
  *
  * A card opens a window over n consecutive packets, offers it every datagram that
  * arrives, and reads packets back out; it can also write the parity of any complete
- * group. The library keeps nothing: the card lends the store to every call, and gets
+ * group. A card that sends opens a sender, and gets the parity packets as they are due.
+ * The library keeps nothing: the card lends the store to every call, and gets
  * the next window value back beside the answer. It has no heap, clock, socket or
  * variable of its own, asks for memcpy and memset and nothing else, and runs on x86-64.
  *
@@ -30,10 +31,11 @@
  *     aligned for its type.
  *   - The buffers of one call do not overlap.
  *   - A call that may write the store (cgv_open, cgv_media, cgv_column, cgv_row) is alone
- *     on that store. Calls that only read it (cgv_read, cgv_write_column, cgv_write_row
- *     and the helpers here that take a const receiver) may run side by side, each with an
- *     output of its own. Calls on different stores never meet. The calls of capture files
- *     take no store; they read what they are lent and write the output alone.
+ *     on that store, and the two calls of a sender are alone on its room. Calls that only
+ *     read a store (cgv_read, cgv_write_column, cgv_write_row and the helpers here that take
+ *     a const receiver) may run side by side, each with an output of its own. Calls on
+ *     different stores or rooms never meet. The calls of capture files take no store; they
+ *     read what they are lent and write the output alone.
  * Nothing is asked of what the buffers and datagrams hold: no packet needs vetting first.
  *
  * Lengths
@@ -88,18 +90,20 @@
  *              other parity gives it. Unaltered traffic never shows one: parity was damaged
  *              or forged, or a media packet of its group was, which may have gone to air.
  *              Tell the desk.
- *   13 14 16   routine: of another window; already there; no room for it now.
+ *   13 14 16   routine: of another window; already there; no room for it now. A sender's 13
+ *              is a gap in what is to be sent: open again, as said under Sending.
  *   15         on media THE ALARM: a packet already marked present differs from the one
  *              that arrived. One of the two is wrong, and the one in the store may have
  *              gone to air. On parity: two parity packets of one group differ.
  *   17         routine when reading: the packet is missing.
  *   6 to 12    a datagram of another kind, port or profile, or a damaged one.
- *   1 to 5     a fault in the card: set-up, buffers, or a store that somebody changed.
+ *   1 to 5     a fault in the card: set-up, buffers, or a store or room that somebody
+ *              changed.
  *   21         of a capture file alone: it is not a proper one, or what was to be written
  *              would not be.
  * A refused call gives a count of 0 and has written to none of the buffers. It hands back
- * the window value that it was given; a refused opening gives a window value of zeros,
- * which every other call refuses with 1.
+ * the window or sender value that it was given; a refused opening gives one of zeros, which
+ * every other call refuses with 1.
  *
  * Stack and time
  *   A call needs less than 8 KiB of stack: 6,736 bytes measured on a painted stack, with
@@ -120,6 +124,42 @@
  *   Windows end to end cut the groups that cross a seam, unless each starts where a matrix
  *   starts: of some 4,000 packets lost (10 x 10, n 400, 2 % lost, joined in mid-matrix)
  *   274 stayed missing end to end, and 6 with the overlap.
+ *
+ * Sending (examples/send.c)
+ *   A sender takes media packets one by one, in order, and keeps running parity in lent room
+ *   for 2 x L + 1 payloads; no packet is kept.
+ *
+ *     static uint8_t payloads[CGV_ROOM(10) * 1316], row[28 + 1316], column[28 + 1316];
+ *     static uint32_t timestamps[CGV_ROOM(10)];
+ *     static uint16_t lengths[CGV_ROOM(10)], longest[CGV_ROOM(10)];
+ *     static struct cgv_stream s = {
+ *         CGV_NO_SENDER, CGV_ROOM_OF_ARRAYS(payloads, timestamps, lengths, longest),
+ *         CGV_OUTPUTS_OF_ARRAYS(row, column), CGV_NO_OUTER, CGV_NO_OUTER};
+ *
+ *     cgv_stream_open(&s, first_number, CGV_ALIGNED, 10, 10, 1316);
+ *     sent = cgv_stream_media(&s, datagram, len, timestamp);   (every media packet, in order)
+ *     if (sent.number == CGV_DONE) {
+ *         to_port(media_port, datagram, len);
+ *         if (sent.column) to_port(media_port + 2, column, sent.column);
+ *         if (sent.row)    to_port(media_port + 4, row, sent.row);
+ *     }
+ *
+ *   One call gives at most one row and one column packet: the bytes written to each output,
+ *   or 0, and then it is as it was. Each parity stream has a UDP port of its own, columns two
+ *   higher than the media, rows four higher, and sequence numbers of its own; the timestamp
+ *   is that of the moment of sending, in practice the media packet's.
+ *   Room: 2 x L + 1 payloads of P bytes, and as many timestamps, lengths and longest lengths,
+ *   58,548 bytes of payloads at most. Each output has 28 + P bytes, at every call, used or
+ *   not. The room is the calls' own from the opening on; nobody else writes it.
+ *   When: a row goes out with its last member, where L is at least 4; below that there are
+ *   none. A staggered column goes out L packets after its last member. Aligned columns all
+ *   end in the last row of a matrix and go out one by one, D packets apart, while the next
+ *   matrix goes by: column k (from 0) with packet k x D of that, L + k x (D - 1) packets
+ *   after its last member. That is L x D - D + 1 at most: 91 at 10 x 10, where a staggered
+ *   column takes 10. The columns that are not out when the media end do not go out.
+ *   Numbers: 13 says that a packet's number is not the next one. Nothing is taken in then, and
+ *   a sender does not resynchronise: after a gap open again, at the number that is there. The
+ *   groups that were not whole are lost to the parity; the parity streams number on.
  *
  * Capture files (examples/card.c; tools/capture-from-pcap makes one of a pcap)
  *   What a card saw, to be replayed elsewhere: the set-up of a window, and up to 512
@@ -255,6 +295,38 @@ struct cgv_written {
     size_t count;
 };
 
+/* Which packets a column has. Aligned: the columns of a matrix start at its first L packets.
+ * Staggered: column r starts in row r modulo D, so that columns end, and go out, spread over
+ * the time of a matrix. Any other number counts as staggered. */
+enum { CGV_ALIGNED = 0, CGV_STAGGERED = 1 };
+
+/* A sender value. Only the calls make one; a made-up value is taken at its word as far as it
+ * passes refusals 1, 2, 4 and 5. It may be copied and looked at. */
+struct cgv_sender {
+    uint16_t first;      /* the first sequence number */
+    uint16_t taken;      /* packets taken in, modulo 65,536: the next number is first + taken */
+    uint8_t arrangement; /* CGV_ALIGNED or CGV_STAGGERED */
+    size_t l, d;         /* columns and rows of the parity matrix */
+    size_t p;            /* payload bytes of a media packet at most */
+    size_t at;           /* where in the arrangement it stands: below 3 x L x D */
+};
+
+/* What a parity packet takes from the caller: RTP sequence number and timestamp, and the SSRC. */
+struct cgv_outer {
+    uint16_t sequence;
+    uint32_t timestamp;
+    uint32_t ssrc;
+};
+
+/* number: CGV_DONE or the refusal. row, column: bytes written to each output, 0 where no such
+ * packet goes out now, and of a refusal. sender: to be passed to the next call. */
+struct cgv_sent {
+    uint32_t number;
+    size_t row;
+    size_t column;
+    struct cgv_sender sender;
+};
+
 /* The library was compiled for this layout; a compiler that differs stops here. */
 #define CGV_LAYOUT(name, holds) typedef char cgv_layout_##name[(holds) ? 1 : -1]
 CGV_LAYOUT(size_t_has_8_bytes, sizeof(size_t) == 8);
@@ -282,6 +354,14 @@ CGV_LAYOUT(reader, sizeof(struct cgv_reader) == 24 && offsetof(struct cgv_reader
                        offsetof(struct cgv_reader, at) == 16 && offsetof(struct cgv_reader, size) == 20);
 CGV_LAYOUT(reading, sizeof(struct cgv_reading) == 28 && offsetof(struct cgv_reading, reader) == 4);
 CGV_LAYOUT(written, sizeof(struct cgv_written) == 16 && offsetof(struct cgv_written, count) == 8);
+CGV_LAYOUT(sender, sizeof(struct cgv_sender) == 40 && offsetof(struct cgv_sender, taken) == 2 &&
+                       offsetof(struct cgv_sender, arrangement) == 4 && offsetof(struct cgv_sender, l) == 8 &&
+                       offsetof(struct cgv_sender, d) == 16 && offsetof(struct cgv_sender, p) == 24 &&
+                       offsetof(struct cgv_sender, at) == 32);
+CGV_LAYOUT(outer, sizeof(struct cgv_outer) == 12 && offsetof(struct cgv_outer, timestamp) == 4 &&
+                      offsetof(struct cgv_outer, ssrc) == 8);
+CGV_LAYOUT(sent, sizeof(struct cgv_sent) == 64 && offsetof(struct cgv_sent, row) == 8 &&
+                     offsetof(struct cgv_sent, column) == 16 && offsetof(struct cgv_sent, sender) == 24);
 
 /* Answers: the first refusal that applies, in this order; of a capture file 21 comes before 4. */
 enum {
@@ -290,7 +370,7 @@ enum {
     CGV_BAD_PAYLOAD_SIZE = 2, /* P not k x 188 or k x 204, k from 1 to 7 */
     CGV_BAD_ROOM = 3,         /* not L x D <= n <= 400, 1 <= K <= 128 */
     CGV_SHORT_BUFFER = 4,     /* a lent part or the output is shorter than its need */
-    CGV_DISORDER = 5,         /* the store is not one that the calls left */
+    CGV_DISORDER = 5,         /* the store, or a sender's room, is not one that the calls left */
     CGV_SHORT_DATAGRAM = 6,   /* under 12 bytes (media) or 28 (parity) */
     CGV_BAD_RTP_HEADER = 7,   /* version not 2, or padding, extension, CSRC or marker set */
     CGV_BAD_PAYLOAD_TYPE = 8, /* not 33 (media) or 96 (parity) */
@@ -298,7 +378,8 @@ enum {
     CGV_BAD_FEC_HEADER = 10,  /* E not 1, or mask, X, type, index or SNBase ext not 0 */
     CGV_BAD_RECOVERY = 11,    /* PT recovery not the profile's */
     CGV_BAD_SHAPE = 12,       /* wrong port, offset or NA, or a row where L < 4 */
-    CGV_OUTSIDE = 13,         /* a number or a member of the group is not in the window */
+    CGV_OUTSIDE = 13,         /* a number or a member of the group is not in the window; of a
+                                 sender, the number is not the next one */
     CGV_REPEAT = 14,          /* already held, the same */
     CGV_DIFFERS = 15,         /* already held, with a difference: on media, the alarm */
     CGV_FULL = 16,            /* two or more are missing and every record is in use */
@@ -306,7 +387,7 @@ enum {
     CGV_BAD_CAPTURE = 21      /* not a proper capture file, or not the content of one */
 };
 /* How many answers the seven calls on a window have, 0 to 17: the size of a table of them.
- * 21 is no answer of these. */
+ * Those of a sender are among these; 21 is none of them. */
 #define CGV_NUMBERS 18
 
 /* ---- the seven calls on a window. The store is lent as six parts, each with its length in
@@ -379,6 +460,31 @@ struct cgv_answer cgv_write_row(struct cgv_window w, uint16_t snbase, uint16_t s
                                 const uint8_t *parity, size_t parity_len,
                                 const struct cgv_record *records, size_t records_len,
                                 uint8_t *out, size_t out_len);
+
+/* ---- the two calls of a sender. Its room is lent as four parts, each with its length in
+ * elements: 2 x L + 1 payloads of P bytes, and 2 x L + 1 numbers in each other part. */
+
+/* Opens a sender at the number of the next media packet: 0, or 1, 2 or 4 with a sender value
+ * of zeros. All that it needs of the room is set to zero; what is past that is not touched. */
+struct cgv_sent cgv_sender_open(uint16_t first, uint8_t arrangement, size_t l, size_t d, size_t p,
+                                uint8_t *payloads, size_t payloads_len, uint32_t *timestamps,
+                                size_t timestamps_len, uint16_t *lengths, size_t lengths_len,
+                                uint16_t *longest, size_t longest_len);
+
+/* Takes the next media datagram in, RTP header first, and writes the parity packets that go
+ * out with it: at most one row and one column, each with the header fields given for it,
+ * which are not looked at where no such packet goes out. 0, 1, 2, 4 (the room, or an output
+ * under 28 + P bytes), 5 (the sender value is past its profile, or a longest length past P),
+ * 6 to 9 of the datagram, and 13 where its number is not the next one. A refused call alters
+ * nothing. An output that is not used is not touched, and of one that is the bytes past the
+ * packet are not. The two outputs do not overlap. */
+struct cgv_sent cgv_sender_media(struct cgv_sender s, const uint8_t *datagram, size_t len,
+                                 struct cgv_outer row, struct cgv_outer column,
+                                 uint8_t *payloads, size_t payloads_len, uint32_t *timestamps,
+                                 size_t timestamps_len, uint16_t *lengths, size_t lengths_len,
+                                 uint16_t *longest, size_t longest_len, uint8_t *row_out,
+                                 size_t row_out_len, uint8_t *column_out,
+                                 size_t column_out_len);
 
 /* ---- the four calls of capture files */
 
@@ -558,6 +664,96 @@ static inline size_t cgv_receiver_length(const struct cgv_receiver *r, uint16_t 
     return length <= r->window.p ? length : r->window.p;
 }
 
+/* ---- a sender and its room in one, with the numbers of the parity streams */
+
+/* How many elements a sender of L columns needs in each part of its room, the payloads times P. */
+#define CGV_ROOM(l) (2 * (l) + 1)
+#define CGV_ROOM_MAX CGV_ROOM(CGV_L_MAX)
+
+/* What a card lends a sender from its opening on: of each group that is not out yet, what its
+ * members so far give. The lengths of the parts are in elements. */
+struct cgv_room {
+    uint8_t *payloads;    /* the exclusive-or of their payloads, P bytes a group */
+    size_t payloads_len;
+    uint32_t *timestamps; /* that of their timestamps */
+    size_t timestamps_len;
+    uint16_t *lengths;    /* that of their payload lengths */
+    size_t lengths_len;
+    uint16_t *longest;    /* the longest of these */
+    size_t longest_len;
+};
+
+/* Where parity packets are written. They may be others from one call to the next. */
+struct cgv_outputs {
+    uint8_t *row;
+    size_t row_len;
+    uint8_t *column;
+    size_t column_len;
+};
+
+/* row and column: the header fields of the next parity packet of each stream. SSRC and the
+ * first sequence number are the card's to fill in, or 0; the timestamp comes with each call. */
+struct cgv_stream {
+    struct cgv_sender sender;
+    struct cgv_room room;
+    struct cgv_outputs out;
+    struct cgv_outer row, column;
+};
+
+/* Initialisers: no sender yet (every call but opening refuses it with 1), a room of four
+ * arrays, outputs of two, and header fields of zeros. */
+#define CGV_NO_SENDER {0, 0, 0, 0, 0, 0, 0}
+#define CGV_ROOM_OF_ARRAYS(payloads, timestamps, lengths, longest)                        \
+    {payloads, sizeof(payloads), timestamps, sizeof(timestamps) / sizeof((timestamps)[0]), \
+     lengths, sizeof(lengths) / sizeof((lengths)[0]), longest,                            \
+     sizeof(longest) / sizeof((longest)[0])}
+#define CGV_OUTPUTS_OF_ARRAYS(row, column) {row, sizeof(row), column, sizeof(column)}
+#define CGV_NO_OUTER {0, 0, 0}
+
+#define CGV_ROOM_ARGUMENTS(m)                                                             \
+    (m).payloads, (m).payloads_len, (m).timestamps, (m).timestamps_len, (m).lengths,      \
+        (m).lengths_len, (m).longest, (m).longest_len
+
+/* Opens a stream whose room is filled in, at the number of the next media packet; also after a
+ * gap. The parity streams number on. Where it is refused, a stream that was open stays open,
+ * and nothing of it has changed. */
+static inline struct cgv_sent cgv_stream_open(struct cgv_stream *s, uint16_t first,
+                                              uint8_t arrangement, size_t l, size_t d,
+                                              size_t p)
+{
+    struct cgv_sent sent =
+        cgv_sender_open(first, arrangement, l, d, p, CGV_ROOM_ARGUMENTS(s->room));
+    if (sent.number == CGV_DONE)
+        s->sender = sent.sender;
+    return sent;
+}
+
+/* Takes the next media datagram in. What goes out with it is the first sent.row bytes of
+ * s->out.row and the first sent.column bytes of s->out.column, with this timestamp; a stream
+ * of which a packet goes out counts its sequence number on. */
+static inline struct cgv_sent cgv_stream_media(struct cgv_stream *s, const uint8_t *datagram,
+                                               size_t len, uint32_t timestamp)
+{
+    struct cgv_outer row = s->row, column = s->column;
+    struct cgv_sent sent;
+    row.timestamp = timestamp;
+    column.timestamp = timestamp;
+    sent = cgv_sender_media(s->sender, datagram, len, row, column, CGV_ROOM_ARGUMENTS(s->room),
+                            s->out.row, s->out.row_len, s->out.column, s->out.column_len);
+    s->sender = sent.sender;
+    if (sent.row)
+        s->row.sequence = CGV_CAST(uint16_t, (s->row.sequence + 1u) & 65535u);
+    if (sent.column)
+        s->column.sequence = CGV_CAST(uint16_t, (s->column.sequence + 1u) & 65535u);
+    return sent;
+}
+
+/* The number that the next media packet has to have. */
+static inline uint16_t cgv_sender_next(const struct cgv_sender *s)
+{
+    return CGV_CAST(uint16_t, (s->first + CGV_CAST(uint32_t, s->taken)) & 65535u);
+}
+
 /* ---- for routing: the numbers of a datagram that was not offered yet. 1, or 0 where it
  * is too short to have one; nothing else of it is looked at. */
 
@@ -596,7 +792,7 @@ static inline const char *cgv_message(uint32_t number)
     case CGV_BAD_FEC_HEADER: return "parity header: E, mask, X, type, index or SNBase ext";
     case CGV_BAD_RECOVERY: return "payload type recovery not the profile's";
     case CGV_BAD_SHAPE: return "parity not of this port and profile";
-    case CGV_OUTSIDE: return "outside the window";
+    case CGV_OUTSIDE: return "outside the window, or not the next number";
     case CGV_REPEAT: return "already held";
     case CGV_DIFFERS: return "already held, and different";
     case CGV_FULL: return "no record is free";

@@ -1,5 +1,5 @@
-/* Calls the card of tests/bare.rs: a packet taken in, an opening and a made-up window value refused, the line of its counters; and a
- * capture file, read and written again, whole and cut. */
+/* Calls the card of tests/bare.rs: a packet taken in, an opening and a made-up window value refused, the line of its counters; a
+ * capture file, read and written again, whole and cut; and a sender that gives a row, is refused, and takes a made-up value. */
 #include "congaveil.h"
 #include <stdbool.h>
 #include <stdio.h>
@@ -22,8 +22,35 @@ struct file {
     uint8_t again[64];
 };
 
+struct link {
+    uint8_t payloads[CGV_ROOM(4) * 188];
+    uint32_t timestamps[CGV_ROOM(4)];
+    uint16_t lengths[CGV_ROOM(4)], longest[CGV_ROOM(4)];
+    uint8_t row[216], column[216], datagram[200];
+    size_t len;
+};
+
 int bare_capture(struct file *file, size_t cut, size_t index);
+int bare_sender(struct link *link, const size_t *set_up, const struct cgv_sender *made_up, bool opens, uint16_t number);
 int bare_card(struct card *card, const size_t *set_up, const struct cgv_window *made_up, bool opens, uint16_t number);
+
+/* A row of four across the wrap, of which each byte of the payload cancels out; then each way to be refused. */
+static int sends(void)
+{
+    static struct link link;
+    static const struct cgv_sender none = CGV_NO_SENDER, far = {0, 0, 1, 4, 4, 188, SIZE_MAX};
+    const size_t good[5] = {65534, 0, 4, 4, 188}, bad[5] = {65534, 1, SIZE_MAX, 4, 188};
+    link.datagram[0] = 0x80, link.datagram[1] = 33, link.datagram[12] = 9;
+    link.len = 200;
+    if (bare_sender(&link, good, &none, true, 5) != 216 || link.row[3] != 5 || link.row[7] != 5 || link.row[28] || link.column[0])
+        return 0;
+    if (bare_sender(&link, bad, &none, true, 5) != -1 || bare_sender(&link, good, &none, false, 5) != -1)
+        return 0;
+    if (bare_sender(&link, good, &far, false, 5) != -5)
+        return 0;
+    link.len = 199;
+    return bare_sender(&link, good, &none, true, 5) == -9;
+}
 
 int main(void)
 {
@@ -54,6 +81,10 @@ int main(void)
     file.len = 31;
     if (bare_capture(&file, 64, 0) != -21) {
         fprintf(stderr, "bare: a file that is cut is taken\n");
+        return 1;
+    }
+    if (!sends()) {
+        fprintf(stderr, "bare: the sender\n");
         return 1;
     }
     printf("bare: the crate without std and without a way to a panic\n");

@@ -1,10 +1,11 @@
-//! A card without std, heap or panic: the crate with a lent store and a desk, every function of it called with what the
-//! compiler cannot foresee. The handler of panics needs a symbol that nobody defines, so the program links only if no way to a
+//! A card without std, heap or panic: the crate with a lent store and a desk, and with a lent room, every function of it called with
+//! what the compiler cannot foresee. The handler of panics needs a symbol that nobody defines, so the program links only if no way to a
 //! panic is left. tests/bare.c calls it.
 #![no_std]
 
 use congaveil::capture::{self, Capture, Port, Reader};
 use congaveil::{media_number, parity_snbase, Counters, Desk, How, Lent, Outer, Receiver, Record, Refusal, SetUp, Taken, Window};
+use congaveil::{room_for, Arrangement, LentRoom, ParityStream, ParityStreams, Sender, SenderSetUp, SenderValue};
 use core::fmt::Write;
 
 extern "C" {
@@ -52,6 +53,19 @@ pub struct File {
     bytes: [u8; 64],
     len: usize,
     again: [u8; 64],
+}
+
+/// What a card in C lends to send: a room of its own, the outputs, and a datagram.
+#[repr(C)]
+pub struct Link {
+    payloads: [u8; room_for(4) * 188],
+    timestamps: [u32; room_for(4)],
+    lengths: [u16; room_for(4)],
+    longest: [u16; room_for(4)],
+    row: [u8; 216],
+    column: [u8; 216],
+    datagram: [u8; 200],
+    len: usize,
 }
 
 fn negative(refusal: Refusal) -> i32 {
@@ -128,4 +142,38 @@ pub extern "C" fn bare_capture(file: &mut File, cut: usize, index: usize) -> i32
     let (ports, lengths) = (ports.get(..count).unwrap_or(&[]), lengths.get(..count).unwrap_or(&[]));
     let written = capture::write(&capture.set_up(), ports, lengths, bodies.get(..len).unwrap_or(&[]), &mut file.again);
     written.map_or_else(negative, |len| len as i32)
+}
+
+/// Opens a sender with any numbers, or takes any sender value, and offers a datagram, changing its number, four times; how many bytes went
+/// out as parity, or the last refusal as a negative number.
+#[no_mangle]
+pub extern "C" fn bare_sender(link: &mut Link, set_up: &[usize; 5], made_up: &SenderValue, opens: bool, number: u16) -> i32 {
+    let Link { payloads, timestamps, lengths, longest, row, column, datagram, len } = link;
+    let room = LentRoom { payloads, timestamps, lengths, longest, row, column };
+    let [first, staggered, l, d, payload] = *set_up;
+    let arrangement = if staggered == 0 { Arrangement::Aligned } else { Arrangement::Staggered };
+    let streams = ParityStreams { row: ParityStream { sequence: number, ssrc: 1 }, column: ParityStream::default() };
+    let mut sender = if opens {
+        match Sender::open_in(SenderSetUp { first: first as u16, arrangement, l, d, payload, streams }, room) {
+            Ok(sender) => sender,
+            Err(refusal) => return negative(refusal),
+        }
+    } else {
+        Sender::from_parts(*made_up, streams, room)
+    };
+    let (mut out, mut refused) = (0usize, None);
+    for _ in 0..4 {
+        for (to, from) in datagram.iter_mut().skip(2).zip(sender.next_number().to_be_bytes()) {
+            *to = from;
+        }
+        match sender.media(datagram.get(..*len).unwrap_or(&[]), number.into()) {
+            Ok(sent) => out = out.wrapping_add(sent.row.map_or(0, <[u8]>::len)).wrapping_add(sent.column.map_or(0, <[u8]>::len)),
+            Err(refusal) => refused = Some(refusal),
+        }
+    }
+    refused = sender.reopen(number).err().or(refused);
+    let kept_streams = *sender.streams();
+    let mut kept = (sender.value().at, kept_streams.row.sequence, sender.into_parts().0.l, room_for(l));
+    unsafe { core::ptr::write_volatile(&mut kept, kept) };
+    refused.map_or(out as i32, negative)
 }

@@ -2,7 +2,7 @@
  * a call that must not write gets the store, and a refused one the output too, through a mapping that can only be read; the
  * datagram can always only be read. What the library reads or writes past a length, or writes where it must not, ends the run.
  * Some lengths claim more than there is: what is past the need must never be touched. Capture files are written, read in pieces and
- * walked in the same way.
+ * walked in the same way, and senders are opened and fed; of a sender the output of which no packet goes out can only be read.
  *
  * Each call is made twice, over plain memory first: answer and every byte must be the same wherever the buffers lie. The second
  * one runs on a painted stack, so that the stack that a call needs is known.
@@ -23,12 +23,14 @@
 #include <unistd.h>
 
 enum { PAGE = 4096, MOST = 140 * PAGE, CLAIM = 1000, STACK = 64 * 1024, STACK_MAX = 8 * 1024 };
-enum { OPEN, MEDIA, COLUMN, ROW, READ, WRITE_COLUMN, WRITE_ROW, FILE_READ, FILE_HEADER, FILE_ENTRY, FILE_WRITE, KINDS };
+enum { OPEN, MEDIA, COLUMN, ROW, READ, WRITE_COLUMN, WRITE_ROW, FILE_READ, FILE_HEADER, FILE_ENTRY, FILE_WRITE, SENDER_OPEN, SENDER_MEDIA, KINDS };
 static const char *const names[KINDS] = {"cgv_open", "cgv_media", "cgv_column", "cgv_row", "cgv_read", "cgv_write_column", "cgv_write_row",
-                                         "cgv_capture_read", "cgv_capture_header", "cgv_capture_entry", "cgv_capture_write"};
+                                         "cgv_capture_read", "cgv_capture_header", "cgv_capture_entry", "cgv_capture_write",
+                                         "cgv_sender_open", "cgv_sender_media"};
 
 static unsigned long long calls, windows, seed, numbers[CGV_NUMBERS], helpers, claims, spoilt;
-static unsigned long long files[KINDS][CGV_BAD_CAPTURE + 1]; /* calls of capture files, by their answer */
+static unsigned long long answers[KINDS][CGV_BAD_CAPTURE + 1]; /* calls of capture files and senders */
+static unsigned long long senders, went_out[4];              /* media taken in: 1 with a row, 2 with a column, 3 with both, 0 with none */
 static const char *doing = "setting up";
 
 static void fail(const char *what)
@@ -76,7 +78,7 @@ struct part {
     int at_end;
 };
 
-enum { P_MEDIA, P_TIMESTAMPS, P_LENGTHS, P_MARKS, P_PARITY, P_RECORDS, P_DATAGRAM, P_OUT, PARTS, STORE = 6 };
+enum { P_MEDIA, P_TIMESTAMPS, P_LENGTHS, P_MARKS, P_PARITY, P_RECORDS, P_DATAGRAM, P_OUT, P_LONGEST, P_COLUMN, PARTS, STORE = 6 };
 static struct part parts[PARTS];
 
 static void make_parts(void)
@@ -146,6 +148,10 @@ struct call {
     size_t out_len;
     struct cgv_answer a;
     uint64_t said[8]; /* the answer of a capture file: its number, and what else it says */
+    struct cgv_sender sender; /* or the set-up, for an opening */
+    struct cgv_room room;
+    struct cgv_outputs outs;
+    struct cgv_sent sent;
 };
 
 /* Apart, so that the other calls are measured without its frame. */
@@ -173,6 +179,17 @@ __attribute__((noinline)) static void make_of_file(struct call *c)
     }
 }
 
+__attribute__((noinline)) static void make_of_sender(struct call *c)
+{
+    static const struct cgv_outer row = {1, 2, 3}, column = {65535, 4, 5};
+    struct cgv_sender v = c->sender;
+    if (c->kind == SENDER_OPEN)
+        c->sent = cgv_sender_open(v.first, v.arrangement, v.l, v.d, v.p, CGV_ROOM_ARGUMENTS(c->room));
+    else
+        c->sent = cgv_sender_media(v, c->datagram, c->len, row, column, CGV_ROOM_ARGUMENTS(c->room), c->outs.row, c->outs.row_len,
+                                   c->outs.column, c->outs.column_len);
+}
+
 static void make(struct call *c)
 {
     struct cgv_window w = c->w;
@@ -184,6 +201,8 @@ static void make(struct call *c)
     case READ: c->a = cgv_read(w, c->number, CGV_STORE_ARGUMENTS(c->s), c->out, c->out_len); break;
     case WRITE_COLUMN: c->a = cgv_write_column(w, c->number, 1, 2, 3, CGV_STORE_ARGUMENTS(c->s), c->out, c->out_len); break;
     case WRITE_ROW: c->a = cgv_write_row(w, c->number, 1, 2, 3, CGV_STORE_ARGUMENTS(c->s), c->out, c->out_len); break;
+    case SENDER_OPEN:
+    case SENDER_MEDIA: make_of_sender(c); break;
     default: make_of_file(c); break;
     }
 }
@@ -242,7 +261,7 @@ static void faulted(int signal, siginfo_t *info, void *context)
 
 static struct cgv_window w;
 static struct cgv_desk desk;
-static size_t lengths[STORE], honest[STORE]; /* as lent and as there are, in elements */
+static size_t lengths[PARTS], honest[PARTS]; /* as lent and as there are, in elements */
 
 /* The store as it is lent, in a mapping (0 to write, 1 to read alone) or in plain memory (2). */
 static struct cgv_store store_in(int view, const size_t *len)
@@ -558,7 +577,7 @@ static void attack_file(struct call *c)
             fail("a refusal that says more");
     if (c->kind == FILE_WRITE)
         same_as_plain(out);
-    files[c->kind][said[0]]++;
+    answers[c->kind][said[0]]++;
 #ifdef FUZZ
     met[(c->kind * CGV_NUMBERS + (said[0] != CGV_DONE)) * 8] = 1;
 #endif
@@ -694,6 +713,163 @@ static void walk_file(void)
     }
 }
 
+/* ---- senders: the payloads of the room lie in the place of the media, rows go to the output and columns to one of their own */
+
+static struct cgv_sender sender;
+
+/* Room and outputs as they are lent. The room is in a mapping (0 to write, 1 to read alone) or in plain memory (2), and so is each
+ * output. */
+static void lend_to_sender(struct call *c, int view, int row, int column, const size_t *len)
+{
+    static const int from[6] = {P_MEDIA, P_TIMESTAMPS, P_LENGTHS, P_LONGEST, P_OUT, P_COLUMN};
+    uint8_t *at[6];
+    int i;
+    for (i = 0; i < 6; i++) {
+        int in = i < 4 ? view : i == 4 ? row : column;
+        at[i] = in == 2 ? parts[from[i]].plain : parts[from[i]].at[in];
+    }
+    {
+        struct cgv_room room = {at[0], len[P_MEDIA], (uint32_t *)(void *)at[1], len[P_TIMESTAMPS],
+                                (uint16_t *)(void *)at[2], len[P_LENGTHS], (uint16_t *)(void *)at[3], len[P_LONGEST]};
+        struct cgv_outputs outs = {at[4], len[P_OUT], at[5], len[P_COLUMN]};
+        c->room = room;
+        c->outs = outs;
+    }
+}
+
+static int same_sender(struct cgv_sender a, struct cgv_sender b)
+{
+    return a.first == b.first && a.taken == b.taken && a.arrangement == b.arrangement && a.l == b.l && a.d == b.d && a.p == b.p &&
+           a.at == b.at;
+}
+
+/* Makes a call of a sender in plain memory and then between the pages; both must agree. Nothing can be written of a refused one, and of
+ * one that is not no output that is not used. A value that was made up is lent no more than there is. */
+static struct cgv_sent attack_sender(int kind, struct cgv_sender value)
+{
+    static const struct cgv_sender zeros = CGV_NO_SENDER;
+    const size_t *len = same_sender(value, sender) ? lengths : honest;
+    struct cgv_sent plain;
+    struct call c;
+    memset(&c, 0, sizeof c);
+    doing = names[kind];
+    calls++;
+    c.kind = kind;
+    c.sender = value;
+    c.datagram = parts[P_DATAGRAM].plain;
+    c.len = parts[P_DATAGRAM].size;
+    lend_to_sender(&c, 2, 2, 2, len);
+    make(&c);
+    plain = c.sent;
+    c.datagram = parts[P_DATAGRAM].at[1];
+    lend_to_sender(&c, plain.number != 0, plain.row == 0, plain.column == 0, len);
+    make_on_stack(&c);
+    if (c.sent.number != plain.number || c.sent.row != plain.row || c.sent.column != plain.column || !same_sender(c.sent.sender, plain.sender))
+        fail("another answer than in plain memory");
+    if (plain.number >= CGV_NUMBERS || (plain.number && (plain.row || plain.column || !same_sender(plain.sender, kind == SENDER_OPEN ? zeros : value))))
+        fail("a refusal with bytes written or another sender value");
+    if (!plain.number && kind == SENDER_MEDIA)
+        went_out[(plain.row != 0) + 2 * (plain.column != 0)]++;
+    same_as_plain(&parts[P_OUT]);
+    same_as_plain(&parts[P_COLUMN]);
+    answers[kind][plain.number]++;
+#ifdef FUZZ
+    met[(kind * CGV_NUMBERS + (int)plain.number) * 8 + (plain.row != 0) + 2 * (plain.column != 0)] = 1;
+#endif
+    return plain;
+}
+
+/* Lays a buffer of a sender: its need or a little less, lent at its length, or as more than there is. */
+static void lay_for_sender(int part, size_t need, size_t element, uint64_t short_one_in)
+{
+    size_t elements = need > MOST / element ? (size_t)draw(2000) : need;
+    if (one_in(short_one_in))
+        elements = one_in(2) ? elements - (elements > 0) : (size_t)draw(elements + 1);
+    place(&parts[part], elements * element, one_in(2));
+    lengths[part] = honest[part] = elements;
+    if (elements >= need && one_in(3)) {
+        lengths[part] += (size_t)draw(CLAIM);
+        claims++;
+    }
+}
+
+/* The set-up of a window, as that of a sender; the room for it. */
+static void set_up_sender(void)
+{
+    size_t n, p;
+    set_up();
+    memset(&sender, 0, sizeof sender);
+    sender.first = w.base, sender.l = w.l, sender.d = w.d, sender.p = w.p;
+    sender.arrangement = (uint8_t)(one_in(8) ? draw(256) : draw(2));
+    n = CGV_ROOM(w.l <= 1000 ? w.l : 1000);
+    p = w.p <= 2000 ? w.p : 2000;
+    lay_for_sender(P_MEDIA, n * p, 1, 60);
+    lay_for_sender(P_TIMESTAMPS, n, 4, 60);
+    lay_for_sender(P_LENGTHS, n, 2, 60);
+    lay_for_sender(P_LONGEST, n, 2, 60);
+}
+
+static struct cgv_sender made_up_sender(struct cgv_sender value)
+{
+    switch (draw(7)) {
+    case 0: value.l = edge(); break;
+    case 1: value.d = edge(); break;
+    case 2: value.p = edge(); break;
+    case 3: value.at = one_in(2) ? 3 * value.l * value.d - (size_t)draw(2) : edge(); break;
+    case 4: value.taken = (uint16_t)draw(65536); break;
+    case 5: value.arrangement = (uint8_t)draw(256); break;
+    default: value.first = (uint16_t)draw(65536); break;
+    }
+    return value;
+}
+
+/* A media packet, the next one as a rule, to a sender that may be made up, with a room that may be changed. */
+static void send_step(void)
+{
+    static const int room[4] = {P_MEDIA, P_TIMESTAMPS, P_LENGTHS, P_LONGEST};
+    int disorder = one_in(30), part = one_in(2) ? P_LONGEST : room[draw(4)];
+    size_t at = (size_t)draw(4096), p = w.p <= CGV_PAYLOAD_MAX ? w.p : CGV_PAYLOAD_MAX;
+    uint8_t by = (uint8_t)(1u << draw(8));
+    struct cgv_sender value = one_in(20) ? made_up_sender(sender) : sender;
+    struct cgv_sent sent;
+    write_datagram(MEDIA, (uint16_t)(cgv_sender_next(&sender) + (one_in(20) ? draw(65536) : 0)));
+    lay_for_sender(P_OUT, CGV_PARITY_HEADER + p, 1, 40);
+    lay_for_sender(P_COLUMN, CGV_PARITY_HEADER + p, 1, 40);
+    if (disorder)
+        change(at, part, by);
+    sent = attack_sender(SENDER_MEDIA, value);
+    if (!sent.number)
+        sender = sent.sender;
+    else if (disorder)
+        change(at, part, by);
+}
+
+static void one_sender(void)
+{
+    static const int room[4] = {P_MEDIA, P_TIMESTAMPS, P_LENGTHS, P_LONGEST};
+    size_t i, steps = pick(1, 400);
+    struct cgv_sent sent;
+    senders++;
+    set_up_sender();
+    place(&parts[P_OUT], 0, one_in(2));
+    place(&parts[P_COLUMN], 0, one_in(2));
+    lengths[P_OUT] = lengths[P_COLUMN] = honest[P_OUT] = honest[P_COLUMN] = 0;
+    sent = attack_sender(SENDER_OPEN, sender);
+    if (!sent.number)
+        sender = sent.sender;
+    else
+        steps = 8;
+    for (i = 0; i < steps; i++) {
+#ifdef FUZZ
+        if (!left)
+            break;
+#endif
+        send_step();
+    }
+    for (i = 0; i < 4; i++)
+        same_as_plain(&parts[room[i]]);
+}
+
 static void one_window(void)
 {
     size_t i, steps = pick(1, 400);
@@ -738,11 +914,39 @@ int LLVMFuzzerTestOneInput(const uint8_t *data, size_t size)
     }
     bytes = data;
     left = size;
-    while (left)
+    while (left) {
         one_window();
+        one_sender();
+    }
     return 0;
 }
 #else
+static unsigned long long refused_by_senders(void)
+{
+    unsigned long long sum = 0;
+    size_t i;
+    for (i = 1; i < CGV_NUMBERS; i++)
+        sum += answers[SENDER_MEDIA][i];
+    return sum;
+}
+
+/* Whether a number of a sender was not reached, or a kind of packet did not go out; it says which. */
+static int senders_missed(void)
+{
+    size_t i;
+    for (i = 0; i < CGV_NUMBERS; i++)
+        if (!answers[SENDER_MEDIA][i] && (i < 3 || (i > 3 && i < 10) || i == CGV_OUTSIDE)) {
+            fprintf(stderr, "guard: number %zu of a sender was not reached\n", i);
+            return 1;
+        }
+    for (i = 0; i < 4; i++)
+        if (!went_out[i]) {
+            fprintf(stderr, "guard: a row, a column, both or none did not go out\n");
+            return 1;
+        }
+    return 0;
+}
+
 int main(int argc, char **argv)
 {
     double seconds = argc > 1 ? strtod(argv[1], NULL) : 0;
@@ -765,15 +969,18 @@ int main(int argc, char **argv)
     clock_gettime(CLOCK_MONOTONIC, &start);
     do {
         one_window();
+        one_sender();
         clock_gettime(CLOCK_MONOTONIC, &now);
     } while (seconds > 0 ? (double)(now.tv_sec - start.tv_sec) < seconds : calls < 1000000);
     for (i = 0; i < CGV_NUMBERS; i++)
         rarest = numbers[i] < numbers[rarest] ? i : rarest;
-    for (i = FILE_READ; i < KINDS; i++)
-        if (!files[i][CGV_DONE] || !files[i][CGV_BAD_CAPTURE] || (i == FILE_WRITE && !files[i][CGV_SHORT_BUFFER])) {
+    for (i = FILE_READ; i <= FILE_WRITE; i++)
+        if (!answers[i][CGV_DONE] || !answers[i][CGV_BAD_CAPTURE] || (i == FILE_WRITE && !answers[i][CGV_SHORT_BUFFER])) {
             fprintf(stderr, "guard: an answer of %s was not reached\n", names[i]);
             return 1;
         }
+    if (senders_missed())
+        return 1;
     if (!spoilt) {
         fprintf(stderr, "guard: nothing was spoilt\n");
         return 1;
@@ -788,9 +995,10 @@ int main(int argc, char **argv)
     }
     printf("guard: %llu calls over %llu windows, %llu lengths that claimed more than there is, %llu helpers: nothing touched that must not be;\n"
            "  every number from 0 to 17, the rarest, %zu, %llu times; %llu parity packets spoilt; %llu capture files written, %llu readings not whole;\n"
+           "  %llu senders took %llu media packets in, %llu of them with a row, %llu with a column, %llu with both, and refused %llu others;\n"
            "  a call needed %zu bytes of stack at most\n",
-           calls, windows, claims, helpers, rarest, numbers[rarest], spoilt, files[FILE_WRITE][CGV_DONE], files[FILE_READ][CGV_BAD_CAPTURE],
-           stack_used());
+           calls, windows, claims, helpers, rarest, numbers[rarest], spoilt, answers[FILE_WRITE][CGV_DONE], answers[FILE_READ][CGV_BAD_CAPTURE],
+           senders, answers[SENDER_MEDIA][CGV_DONE], went_out[1], went_out[2], went_out[3], refused_by_senders(), stack_used());
     return 0;
 }
 #endif

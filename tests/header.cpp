@@ -8,6 +8,34 @@ static cgv_record records[1];
 static cgv_receiver receiver = {CGV_NO_WINDOW, CGV_STORE_OF_ARRAYS(media, timestamps, lengths, marks, parity, records)};
 static cgv_desk desk;
 
+static uint8_t payloads[CGV_ROOM(4) * 188], row[CGV_PARITY_HEADER + 188], column[CGV_PARITY_HEADER + 188];
+static uint32_t stamps[CGV_ROOM(4)];
+static uint16_t sizes[CGV_ROOM(4)], longest[CGV_ROOM_MAX];
+static cgv_stream stream = {CGV_NO_SENDER, CGV_ROOM_OF_ARRAYS(payloads, stamps, sizes, longest), CGV_OUTPUTS_OF_ARRAYS(row, column), CGV_NO_OUTER,
+                            CGV_NO_OUTER};
+
+// A stream of four packets: a row goes out with the last.
+static bool sends()
+{
+    uint8_t datagram[CGV_MEDIA_HEADER + 188] = {0x80, 33, 0xFF, 0xFE};
+    if (stream.room.payloads_len != 9 * 188 || stream.room.timestamps_len != 9 || stream.room.lengths_len != 9 ||
+        stream.room.longest_len != 41 || stream.out.row_len != 216 || stream.out.column_len != 216)
+        return false;
+    if (cgv_stream_open(&stream, 65534, CGV_STAGGERED, 5, 4, 188).number != CGV_SHORT_BUFFER ||
+        cgv_stream_media(&stream, datagram, sizeof datagram, 0).number != CGV_BAD_PROFILE ||
+        cgv_stream_open(&stream, 65534, CGV_STAGGERED, 4, 4, 188).number != CGV_DONE)
+        return false;
+    for (int i = 0; i < 4; i++) {
+        datagram[2] = static_cast<uint8_t>(cgv_sender_next(&stream.sender) >> 8);
+        datagram[3] = static_cast<uint8_t>(cgv_sender_next(&stream.sender));
+        const cgv_sent sent = cgv_stream_media(&stream, datagram, sizeof datagram, 7);
+        if (sent.number != CGV_DONE || sent.column != 0 || sent.row != (i == 3 ? sizeof row : 0))
+            return false;
+    }
+    return stream.row.sequence == 1 && stream.column.sequence == 0 && row[7] == 7 && row[12] == 0xFF && row[13] == 0xFE &&
+           cgv_stream_media(&stream, datagram, sizeof datagram, 0).number == CGV_OUTSIDE;
+}
+
 // A capture file of one entry, written, judged and walked.
 static bool capture()
 {
@@ -42,5 +70,7 @@ int main()
         return 4;
     if (!capture())
         return 6;
+    if (!sends())
+        return 7;
     return cgv_counters_line(&desk.counters, line, sizeof line) == 0;
 }

@@ -1,4 +1,5 @@
-// The library for cards in C and Rust: the calls of document 01 over what a card lends, its records a table; and capture files.
+// The library for cards in C and Rust: the calls of document 01 over what a card lends, its records a table; capture files; and a
+// sender.
 // Every call ends on every input; a refused one gives back its number and changes nothing that was lent.
 // The records in use are gathered into a hand: few of them into a small array, more into a large one, which is made only then.
 use capture::Header;
@@ -7,6 +8,9 @@ use capture::Reader;
 use capture::Reading;
 use capture::Written;
 use face::Reply;
+use sender::Outer;
+use sender::Sender;
+use sender::Sent;
 use window::Record;
 use window::Window;
 ghost use mathlib.Core.Path.{_≡_};
@@ -15,6 +19,8 @@ ghost use Rattle.rtp.specs.Fec.{column, row};
 ghost use Rattle.calls.specs.Call.{asked, opened, offeredMedia, offeredParity, readOut, wroteParity};
 ghost use Rattle.face.specs.Reply.{replied, filled};
 ghost use Rattle.capture.specs.Calls.{readOn, headerRead, entryRead, wrote};
+ghost use Rattle.sender.specs.Sums.{lent};
+ghost use Rattle.sender.specs.Call as sending;
 
 // Opens a window over n positions from a base number; all that it needs of the store is set to zero.
 #[no_mangle]
@@ -368,4 +374,65 @@ pub extern "C" fn cgv_capture_write(
     ensures { λ r. ⌜ record { written = r; out = now (out .exit) } ≡ wrote (record { base = base; l = l; d = d; p = p; n = n; k = k; ports = now (ports .entry); lengths = now (lengths .entry); bodies = now (bodies .entry) }) (now (out .entry)) ⌝ }
 {
     save::write(base, l, d, p, n, k, ports, lengths, bodies, out)
+}
+
+// ---- a sender
+
+// Opens a sender in lent room, all of which that it needs is set to zero. The arrangement is 0 aligned, any other number staggered.
+#[no_mangle]
+pub extern "C" fn cgv_sender_open(
+    first: u16,
+    arrangement: u8,
+    l: usize,
+    d: usize,
+    p: usize,
+    payloads: &mut [u8],
+    timestamps: &mut [u32],
+    lengths: &mut [u16],
+    longest: &mut [u16],
+) -> Sent
+    ensures { λ r. ⌜ record { sent = r; room = lent (now (payloads .exit)) (now (timestamps .exit)) (now (lengths .exit)) (now (longest .exit)) }
+        ≡ sending.opened (sending.fresh first arrangement l d p) (lent (now (payloads .entry)) (now (timestamps .entry)) (now (lengths .entry)) (now (longest .entry))) ⌝ }
+{
+    Sender::open(
+        first,
+        arrangement,
+        l,
+        d,
+        p,
+        payloads,
+        timestamps,
+        lengths,
+        longest,
+    )
+}
+
+// Offers a media datagram to a sender; the counts are of bytes written to the row and to the column output.
+#[no_mangle]
+pub extern "C" fn cgv_sender_media(
+    s: Sender,
+    datagram: &[u8],
+    row: Outer,
+    column: Outer,
+    payloads: &mut [u8],
+    timestamps: &mut [u32],
+    lengths: &mut [u16],
+    longest: &mut [u16],
+    row_out: &mut [u8],
+    column_out: &mut [u8],
+) -> Sent
+    ensures { λ r. ⌜ record { sent = r; room = lent (now (payloads .exit)) (now (timestamps .exit)) (now (lengths .exit)) (now (longest .exit)); row = now («row_out» .exit); column = now («column_out» .exit) }
+        ≡ sending.offered s (now (datagram .entry)) row column (lent (now (payloads .entry)) (now (timestamps .entry)) (now (lengths .entry)) (now (longest .entry))) (now («row_out» .entry)) (now («column_out» .entry)) ⌝ }
+{
+    s.media(
+        datagram,
+        row,
+        column,
+        payloads,
+        timestamps,
+        lengths,
+        longest,
+        row_out,
+        column_out,
+    )
 }

@@ -1,5 +1,5 @@
-//! The C face, as include/congaveil.h declares it. Every use of it is in `Receiver` and in `capture`.
-use crate::Record;
+//! The C face, as include/congaveil.h declares it. Every use of it is in `Receiver`, in `Sender` and in `capture`.
+use crate::{Outer, Record};
 use core::mem::size_of;
 
 /// A window value: what a window was opened with, and how many packets are present and records in use.
@@ -36,6 +36,36 @@ pub struct Answer {
     pub spoilt: usize,
     pub window: Window,
 }
+
+/// A sender value: what a sender was opened with, and where it stands.
+#[repr(C)]
+#[derive(Clone, Copy, Debug, Default, PartialEq, Eq)]
+pub struct SenderValue {
+    /// Sequence number of the first media packet.
+    pub first: u16,
+    /// Media packets taken in, modulo 65,536.
+    pub taken: u16,
+    /// 0 aligned, any other number staggered.
+    pub arrangement: u8,
+    /// Columns of the parity matrix.
+    pub l: usize,
+    /// Rows of the parity matrix.
+    pub d: usize,
+    /// Payload bytes of a media packet at most.
+    pub p: usize,
+    /// Where in the arrangement it stands, below 3 × L × D.
+    pub at: usize,
+}
+
+#[repr(C)]
+pub struct Sent {
+    pub number: u32,
+    pub row: usize,
+    pub column: usize,
+    pub sender: SenderValue,
+}
+
+const _: () = assert!(size_of::<SenderValue>() == 40 && size_of::<Outer>() == 12 && size_of::<Sent>() == 64);
 
 /// What the header of a capture file says.
 #[repr(C)]
@@ -198,6 +228,44 @@ extern "C" {
         out: *mut u8,
         out_len: usize,
     ) -> Answer;
+}
+
+extern "C" {
+    pub fn cgv_sender_open(
+        first: u16,
+        arrangement: u8,
+        l: usize,
+        d: usize,
+        p: usize,
+        payloads: *mut u8,
+        payloads_len: usize,
+        timestamps: *mut u32,
+        timestamps_len: usize,
+        lengths: *mut u16,
+        lengths_len: usize,
+        longest: *mut u16,
+        longest_len: usize,
+    ) -> Sent;
+
+    pub fn cgv_sender_media(
+        s: SenderValue,
+        datagram: *const u8,
+        len: usize,
+        row: Outer,
+        column: Outer,
+        payloads: *mut u8,
+        payloads_len: usize,
+        timestamps: *mut u32,
+        timestamps_len: usize,
+        lengths: *mut u16,
+        lengths_len: usize,
+        longest: *mut u16,
+        longest_len: usize,
+        row_out: *mut u8,
+        row_out_len: usize,
+        column_out: *mut u8,
+        column_out_len: usize,
+    ) -> Sent;
 }
 
 extern "C" {

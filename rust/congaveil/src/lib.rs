@@ -32,27 +32,30 @@
 //! A [`Desk`] beside the receiver tells which packets were rebuilt, and counts for the operator. [`capture`] saves what came in to a
 //! file, and reads such files.
 //!
+//! A [`Sender`] is the other end: it takes the media packets that are sent, in order, and gives the row and column packets that go out
+//! with each. It keeps running parity, and no packet.
+//!
 //! # What to do with an answer
 //!
 //! - [`Taken`] has the packets rebuilt, and the parity packets that were spoilt: what they gave cannot be right. They are
 //!   released, and the packet stays missing unless other parity gives it. Unaltered traffic never shows one: parity was
 //!   damaged or forged, or a media packet of its group was, which may have gone to air.
 //! - [`Outside`](Refusal::Outside), [`Repeat`](Refusal::Repeat) and [`Full`](Refusal::Full) are routine: of another
-//!   window, already there, no room for it now.
+//!   window, already there, no room for it now. A sender's `Outside` is a gap in what is to be sent: [`Sender::reopen`].
 //! - [`Differs`](Refusal::Differs) on media is **the alarm**: a packet already marked present differs from the one that
 //!   arrived. One of the two is wrong, and the one in the store may have gone to air.
 //! - Refusals 6 to 12 are of a datagram of another kind, port or profile, or of a damaged one; 1 to 5 are a fault in the
-//!   card: set-up, buffers, or a store that somebody changed. 21 is of a capture file alone.
+//!   card: set-up, buffers, or a store or room that somebody changed. 21 is of a capture file alone.
 //!
 //! # Without std
 //!
-//! `default-features = false` leaves `std` out, and with it [`Owned`], [`Receiver::open`], [`Receiver::packet`] and [`capture::to_vec`];
-//! everything else works over a [`Lent`] store. Nothing is allocated then.
+//! `default-features = false` leaves `std` out, and with it `Owned`, `OwnedRoom`, `Receiver::open`, `Receiver::packet`, `Sender::open` and
+//! `capture::to_vec`; everything else works over a [`Lent`] store and a [`LentRoom`]. Nothing is allocated then.
 //!
 //! # Threads
 //!
 //! Calls that take `&self` (`read`, `payload`, `write_column`, ..) may run side by side on one receiver; those that take
-//! `&mut self` are alone on it. There is no state beside the receivers.
+//! `&mut self` are alone on it. There is no state beside the receivers and senders.
 //!
 //! # Linking
 //!
@@ -70,13 +73,19 @@ mod desk;
 mod face;
 mod receiver;
 mod refusal;
+mod room;
+mod sender;
 mod store;
 
 pub use datagram::{media_number, parity_snbase};
 pub use desk::{Counters, Desk, How, Rebuilt};
-pub use face::Window;
+pub use face::{SenderValue, Window};
 pub use receiver::{Outer, Packet, Receiver, SetUp, Taken};
 pub use refusal::Refusal;
+#[cfg(feature = "std")]
+pub use room::OwnedRoom;
+pub use room::{room_for, LentRoom, Room};
+pub use sender::{Arrangement, ParityStream, ParityStreams, Sender, SenderSetUp, Sent};
 #[cfg(feature = "std")]
 pub use store::Owned;
 pub use store::{Lent, Record, Store};

@@ -47,6 +47,7 @@ pub struct SetUp {
 }
 
 /// The header fields of a parity packet that are the sender's own.
+#[repr(C)]
 #[derive(Clone, Copy, Debug, Default, PartialEq, Eq)]
 pub struct Outer {
     /// The RTP sequence number.

@@ -13,7 +13,7 @@ pub enum Refusal {
     BadRoom = 3,
     /// A lent part or the output is shorter than its need.
     ShortBuffer = 4,
-    /// The store is not one that the calls left.
+    /// The store, or a sender's room, is not one that the calls left.
     Disorder = 5,
     /// Under 12 bytes (media) or 28 (parity).
     ShortDatagram = 6,
@@ -29,7 +29,7 @@ pub enum Refusal {
     BadRecovery = 11,
     /// Wrong port, Offset or NA, or a row where L < 4.
     BadShape = 12,
-    /// A number or a member of the group is not in the window. Routine.
+    /// A number or a member of the group is not in the window. Routine. Of a sender: the number is not the next one.
     Outside = 13,
     /// Already held, the same. Routine.
     Repeat = 14,
@@ -91,7 +91,7 @@ impl fmt::Display for Refusal {
             Refusal::BadFecHeader => "parity header: E, mask, X, type, index or SNBase ext",
             Refusal::BadRecovery => "payload type recovery not the profile's",
             Refusal::BadShape => "parity not of this port and profile",
-            Refusal::Outside => "outside the window",
+            Refusal::Outside => "outside the window, or not the next number",
             Refusal::Repeat => "already held",
             Refusal::Differs => "already held, and different",
             Refusal::Full => "no record is free",

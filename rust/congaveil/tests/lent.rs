@@ -1,4 +1,5 @@
-//! A lent store, with the crate's features as they are chosen: also without std.
+//! A lent store and a lent room, with the crate's features as they are chosen: also without std.
+use congaveil::{room_for, Arrangement, LentRoom, ParityStream, ParityStreams, Sender, SenderSetUp};
 use congaveil::{Desk, How, Lent, Outer, Receiver, Record, Refusal, SetUp, Taken, PARITY_HEADER};
 
 const SET_UP: SetUp = SetUp { base: 65_534, l: 4, d: 4, payload: 188, positions: 16, records: 8, ssrc: 7 };
@@ -38,6 +39,39 @@ fn a_row_across_the_wrap() {
     assert_eq!(desk.rebuilt(&receiver).map(|packet| (packet.number, packet.timestamp, packet.payload[0])).next(), Some((0, 2, 3)));
     assert_eq!((desk.how(&receiver, 0), receiver.payload(0)), (How::Rebuilt, Some(&[3; 188][..])));
     assert_eq!(desk.counters().recovered(), 1);
+}
+
+/// A sender in arrays: the row that goes out with its last packet, and nothing with the others.
+#[test]
+fn a_row_that_is_sent() {
+    let (mut payloads, mut timestamps) = ([9; room_for(4) * 188], [9; room_for(4)]);
+    let (mut lengths, mut longest) = ([9; room_for(4)], [9; room_for(4)]);
+    let (mut row, mut column) = ([9; PARITY_HEADER + 188], [9; PARITY_HEADER + 188]);
+    let room = LentRoom {
+        payloads: &mut payloads,
+        timestamps: &mut timestamps,
+        lengths: &mut lengths,
+        longest: &mut longest,
+        row: &mut row,
+        column: &mut column,
+    };
+    let streams = ParityStreams { row: ParityStream { sequence: 65_535, ssrc: 1 }, column: ParityStream::default() };
+    let set_up = SenderSetUp { first: 65_534, arrangement: Arrangement::Aligned, l: 4, d: 4, payload: 188, streams };
+    let mut sender = Sender::open_in(set_up, room).unwrap();
+    for i in 0..4u8 {
+        let mut packet = [i + 1; 200];
+        packet[..12].copy_from_slice(&[0x80, 33, 0, 0, 0, 0, 0, i, 0, 0, 0, 0]);
+        packet[2..4].copy_from_slice(&sender.next_number().to_be_bytes());
+        let sent = sender.media(&packet, 3).unwrap();
+        assert_eq!((sent.row.is_some(), sent.column), (i == 3, None));
+        if let Some(row) = sent.row {
+            assert_eq!(row[..12], [0x80, 96, 0xff, 0xff, 0, 0, 0, 3, 0, 0, 0, 1]);
+            assert_eq!(row[12..28], [0xff, 0xfe, 0, 0, 0x80, 0, 0, 0, 0, 0, 0, 0, 0x40, 1, 4, 0]);
+            assert_eq!(row[28..], [1 ^ 2 ^ 3 ^ 4; 188]);
+        }
+    }
+    assert_eq!((sender.next_number(), sender.streams().row.sequence), (2, 0));
+    assert_eq!(column, [9; PARITY_HEADER + 188]);
 }
 
 /// Calls that only read run side by side on one receiver.
