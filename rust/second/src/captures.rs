@@ -8,14 +8,14 @@ use crate::rng::Rng;
 
 pub struct Capture {
     pub name: &'static str,
-    l: usize,
-    d: usize,
-    p: usize,
-    first: u16,
+    pub l: usize,
+    pub d: usize,
+    pub p: usize,
+    pub first: u16,
     /// In order of arrival: port (1 media, 2 column, 3 row) and datagram.
-    entries: Vec<(u8, Vec<u8>)>,
+    pub entries: Vec<(u8, Vec<u8>)>,
     /// The media packets by their distance from the first number.
-    media: Vec<Vec<u8>>,
+    pub media: Vec<Vec<u8>>,
 }
 
 #[derive(Default)]

@@ -1,7 +1,8 @@
-//! The library's C face, as include/congaveil.h declares it, and thin safe wrappers around the eleven calls.
+//! The library's C face, as include/congaveil.h declares it, and thin safe wrappers around the thirteen calls.
 
 use crate::capture::Content;
 use crate::model::{Answer, Record, Stamp, Window};
+use crate::sender::{Room, Sent, Value};
 
 #[repr(C)]
 #[derive(Clone, Copy)]
@@ -88,6 +89,34 @@ pub struct Written {
     pub count: usize,
 }
 
+#[repr(C)]
+#[derive(Clone, Copy)]
+struct CSender {
+    first: u16,
+    taken: u16,
+    arrangement: u8,
+    l: usize,
+    d: usize,
+    p: usize,
+    at: usize,
+}
+
+/// What a parity packet takes from the caller.
+#[repr(C)]
+struct COuter {
+    sequence: u16,
+    timestamp: u32,
+    ssrc: u32,
+}
+
+#[repr(C)]
+struct CSent {
+    number: u32,
+    row: usize,
+    column: usize,
+    sender: CSender,
+}
+
 /// A record as the bytes it is lent in.
 #[repr(C, align(4))]
 #[derive(Clone, Copy, Debug, PartialEq, Eq)]
@@ -101,6 +130,7 @@ const _: () = assert!(std::mem::size_of::<CRecord>() == RECORD && std::mem::alig
 const _: () = assert!(std::mem::size_of::<RawRecord>() == RECORD && std::mem::size_of::<CAnswer>() == 88);
 const _: () = assert!(std::mem::size_of::<Header>() == 56 && std::mem::size_of::<Entry>() == 24);
 const _: () = assert!(std::mem::size_of::<Reader>() == 24 && std::mem::size_of::<Reading>() == 28 && std::mem::size_of::<Written>() == 16);
+const _: () = assert!(std::mem::size_of::<CSender>() == 40 && std::mem::size_of::<COuter>() == 12 && std::mem::size_of::<CSent>() == 64);
 
 impl RawRecord {
     pub fn set(&mut self, record: Record) {
@@ -184,6 +214,40 @@ extern "C" {
         out: *mut u8,
         out_len: usize,
     ) -> Written;
+    fn cgv_sender_open(
+        first: u16,
+        arrangement: u8,
+        l: usize,
+        d: usize,
+        p: usize,
+        payloads: *mut u8,
+        payloads_len: usize,
+        timestamps: *mut u32,
+        timestamps_len: usize,
+        lengths: *mut u16,
+        lengths_len: usize,
+        longest: *mut u16,
+        longest_len: usize,
+    ) -> CSent;
+    fn cgv_sender_media(
+        s: CSender,
+        datagram: *const u8,
+        len: usize,
+        row: COuter,
+        column: COuter,
+        payloads: *mut u8,
+        payloads_len: usize,
+        timestamps: *mut u32,
+        timestamps_len: usize,
+        lengths: *mut u16,
+        lengths_len: usize,
+        longest: *mut u16,
+        longest_len: usize,
+        row_out: *mut u8,
+        row_out_len: usize,
+        column_out: *mut u8,
+        column_out_len: usize,
+    ) -> CSent;
 }
 
 /// The lent store. A slice's pointer is valid and not null also where it is empty.
@@ -314,6 +378,47 @@ pub fn capture_write(c: &Content, out: &mut [u8]) -> Written {
             out.len(),
         )
     }
+}
+
+fn outer(stamp: Stamp) -> COuter {
+    COuter { sequence: stamp.sequence, timestamp: stamp.timestamp, ssrc: stamp.ssrc }
+}
+
+fn sent(answer: CSent) -> Sent {
+    let s = answer.sender;
+    let value =
+        Value { first: s.first, taken: s.taken, arrangement: s.arrangement, l: s.l as u64, d: s.d as u64, p: s.p as u64, at: s.at as u64 };
+    Sent { number: answer.number, row: answer.row as u64, column: answer.column as u64, value }
+}
+
+/// Calls with the four parts of a sender's room between what comes before and what comes after.
+macro_rules! with_room {
+    ($name:ident, [$($before:expr),*], $room:expr, [$($after:expr),*]) => {
+        sent(unsafe {
+            $name($($before,)* $room.payloads.as_mut_ptr(), $room.payloads.len(), $room.timestamps.as_mut_ptr(), $room.timestamps.len(),
+                $room.lengths.as_mut_ptr(), $room.lengths.len(), $room.longest.as_mut_ptr(), $room.longest.len() $(, $after)*)
+        })
+    };
+}
+
+/// Opens the sender that the value names; its two counts are not passed.
+pub fn sender_open(asked: Value, room: &mut Room) -> Sent {
+    let (l, d, p) = (asked.l as usize, asked.d as usize, asked.p as usize);
+    with_room!(cgv_sender_open, [asked.first, asked.arrangement, l, d, p], room, [])
+}
+
+/// Offers a packet to a sender. What the caller gives and the outputs: row, then column.
+pub fn sender_media(v: Value, datagram: &[u8], room: &mut Room, stamps: [Stamp; 2], outputs: [&mut [u8]; 2]) -> Sent {
+    let (first, taken, arrangement) = (v.first, v.taken, v.arrangement);
+    let s = CSender { first, taken, arrangement, l: v.l as usize, d: v.d as usize, p: v.p as usize, at: v.at as usize };
+    let [row, column] = stamps.map(outer);
+    let [row_out, column_out] = outputs;
+    with_room!(
+        cgv_sender_media,
+        [s, datagram.as_ptr(), datagram.len(), row, column],
+        room,
+        [row_out.as_mut_ptr(), row_out.len(), column_out.as_mut_ptr(), column_out.len()]
+    )
 }
 
 /// What was lent to a call that may not change it, looked at anew.

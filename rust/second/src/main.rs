@@ -1,5 +1,5 @@
-//! A second program for document 01 and requests 1 and 2 of document 02, run against the library: random traffic, brute
-//! force on small windows, real captures, capture files.
+//! A second program for document 01 and requests 1, 2 and 4 of document 02, run against the library: random traffic, brute
+//! force on small windows, real captures, capture files, senders.
 //!
 //! `second` runs a fixed seeded set, `second --seed S` takes one seed again, `second --seconds N [--seed S]` is the long run, which
 //! takes the seeds from S onward. `second --replay PROGRAM [--seed S]` runs the program that replays a capture file, on files of
@@ -12,8 +12,13 @@ mod face;
 mod files;
 mod model;
 mod pair;
+mod received;
 mod replays;
+mod resent;
 mod rng;
+mod sender;
+mod sender_pair;
+mod sending;
 mod stopping;
 mod traffic;
 mod wire;
@@ -26,8 +31,11 @@ use std::time::{Duration, Instant};
 const WINDOWS: u64 = 80_000;
 const LISTS: u64 = 20_000;
 const PATTERNS: u64 = 250;
-/// After so many windows comes the content of a capture file. In turns a wrong copy of either is found early.
+/// After so many windows comes the content of a capture file, and after so many a sender. In turns a wrong copy of any is found early.
 const WINDOWS_A_CONTENT: u64 = 16;
+const WINDOWS_A_SENDER: u64 = 50;
+/// And one that counts past 65,536: twelve in all, each of six small profiles with each arrangement.
+const WINDOWS_A_LONG_SENDER: u64 = 6_600;
 
 /// Each number, each kind of spoilt rebuild, and each limit and breach of a capture file must be met so often in the run without
 /// arguments.
@@ -46,13 +54,23 @@ struct Run {
     /// The captures, or why they cannot be read: that shows when their turn comes, after the reader of capture files was compared.
     files: Result<Vec<captures::Capture>, String>,
     contents: files::Tally,
+    sending: sending::Tally,
+    resent: Vec<resent::Found>,
 }
 
 impl Run {
     fn new() -> Run {
         let files = captures::load();
         let captures = captures::Tally { captures: files.as_ref().map_or(0, Vec::len) as u64, ..Default::default() };
-        Run { traffic: Default::default(), stopping: Default::default(), captures, files, contents: Default::default() }
+        Run {
+            traffic: Default::default(),
+            stopping: Default::default(),
+            captures,
+            files,
+            contents: Default::default(),
+            sending: Default::default(),
+            resent: Vec::new(),
+        }
     }
 
     fn window(&mut self, seed: u64) -> Result<(), String> {
@@ -76,6 +94,21 @@ impl Run {
 
     fn content(&mut self, seed: u64) -> Result<(), String> {
         files::run(seed, &mut self.contents).map_err(|text| format!("DIFFERENCE in a capture file, seed {seed}: {text}"))
+    }
+
+    fn sender(&mut self, seed: u64) -> Result<(), String> {
+        sending::run(seed, &mut self.sending).map_err(|text| format!("DIFFERENCE in a sender, seed {seed}:\n{text}"))
+    }
+
+    fn long_sender(&mut self, seed: u64) -> Result<(), String> {
+        sending::run_long(seed, &mut self.sending).map_err(|text| format!("DIFFERENCE in a long sender, seed {seed}:\n{text}"))
+    }
+
+    fn resend(&mut self) -> Result<(), String> {
+        for file in self.files.as_ref().map_err(String::clone)? {
+            self.resent.push(resent::run(file).map_err(|text| format!("DIFFERENCE in a resent capture: {text}"))?);
+        }
+        Ok(())
     }
 
     fn print(&self) {
@@ -111,6 +144,11 @@ impl Run {
             c.compared,
             format_args!("{} offered to a full table; 0 wrong", c.full)
         );
+        self.print_files();
+        self.print_senders();
+    }
+
+    fn print_files(&self) {
         let f = &self.contents;
         println!(
             "capture files: {} contents, {} files read in {} pieces, {} headers and entries compared; 0 differences",
@@ -121,13 +159,42 @@ impl Run {
         }
     }
 
+    fn print_senders(&self) {
+        let s = &self.sending;
+        println!(
+            "senders: {} openings of {} profiles and arrangements, {} past 65,536 packets; {} calls compared, answered {}; 0 differences",
+            s.openings,
+            s.profiles.len(),
+            s.long,
+            s.calls,
+            times(&s.met())
+        );
+        let r = &s.received;
+        println!(
+            "  {} packets taken, {} rows and {} columns sent; {} of them written by {} windows, {} packets lost, {} rebuilt; 0 wrong",
+            s.taken, s.rows, s.columns, r.written, r.windows, r.lost, r.rebuilt
+        );
+        let compared = |kind: usize| self.resent.iter().map(|found| found.compared[kind]).sum::<u64>();
+        println!("  captured media sent: {} rows and {} columns of real senders compared; 0 differ", compared(0), compared(1));
+        for found in &self.resent {
+            println!("    {}", found.words());
+        }
+    }
+
     fn fixed(&mut self) -> Result<(), String> {
         for seed in 1..=WINDOWS {
             self.window(seed)?;
             if seed % WINDOWS_A_CONTENT == 0 {
                 self.content(seed / WINDOWS_A_CONTENT)?;
             }
+            if seed % WINDOWS_A_SENDER == 0 {
+                self.sender(seed / WINDOWS_A_SENDER)?;
+            }
+            if seed % WINDOWS_A_LONG_SENDER == 0 {
+                self.long_sender(seed / WINDOWS_A_LONG_SENDER)?;
+            }
         }
+        self.resend()?;
         for seed in 1..=LISTS {
             self.list(seed)?;
         }
@@ -143,6 +210,12 @@ impl Run {
         if let Some((name, _)) = kinds.find(|&(_, times)| times < LEAST) {
             return Err(format!("of capture files, {name} was met fewer than {LEAST} times"));
         }
+        if let Some((name, _)) = self.sending.met().into_iter().find(|&(_, times)| times < LEAST) {
+            return Err(format!("of senders, {name} was met fewer than {LEAST} times"));
+        }
+        if self.sending.profiles.len() != 2 * traffic::profiles().len() {
+            return Err("not every profile was met by senders with both arrangements".to_string());
+        }
         let x = self.traffic.spoilt;
         match self.traffic.numbers.iter().position(|&times| times < LEAST) {
             Some(number) => Err(format!("number {number} was met fewer than {LEAST} times")),
@@ -155,8 +228,16 @@ impl Run {
     }
 
     fn again(&mut self, seed: u64) -> Result<(), String> {
-        // All four parts are shown, also where the first one differs.
-        let results = [self.window(seed), self.list(seed), self.pattern(seed), self.content(seed)];
+        // All parts are shown, also where the first one differs.
+        let results = [
+            self.window(seed),
+            self.list(seed),
+            self.pattern(seed),
+            self.content(seed),
+            self.sender(seed),
+            self.long_sender(seed),
+            self.resend(),
+        ];
         let faults: Vec<String> = results.into_iter().filter_map(Result::err).collect();
         if faults.is_empty() {
             self.print();
@@ -168,6 +249,7 @@ impl Run {
     fn long(&mut self, length: Duration, first: u64) -> Result<(), String> {
         let start = Instant::now();
         let mut round = 0;
+        self.resend()?;
         while start.elapsed() < length {
             for i in 0..200 {
                 self.window(first.wrapping_add(round * 200 + i))?;
@@ -179,6 +261,12 @@ impl Run {
                 self.list(first.wrapping_add(round * 50 + i))?;
             }
             self.pattern(first.wrapping_add(round))?;
+            for i in 0..8 {
+                self.sender(first.wrapping_add(round * 8 + i))?;
+            }
+            if round % 16 == 0 {
+                self.long_sender(first.wrapping_add(round / 16))?;
+            }
             round += 1;
         }
         self.print();

@@ -145,7 +145,7 @@ fn draw_knotted_window(rng: &mut Rng) -> Window {
 }
 
 /// A value near the present one, or one that no set-up has.
-fn twist(rng: &mut Rng, value: u64) -> u64 {
+pub fn twist(rng: &mut Rng, value: u64) -> u64 {
     match rng.below(12) {
         0..=2 => value.wrapping_add(1),
         3..=5 => value.wrapping_sub(1),
