@@ -1,11 +1,14 @@
 //! How fast the library is, with payloads of full length, against yardsticks that are measured in the same run. Every figure is the median of many runs; the buffers are
 //! said beside each. Run it by tools/bench, on a machine that does nothing else.
 mod plain;
+mod prompeg;
 mod traffic;
 
 use congaveil::capture::{self, Capture, Port, ENTRIES_MAX, FRONT_MAX};
+use congaveil::{room_for, Arrangement, ParityStreams, Sender, SenderSetUp};
 use congaveil::{Outer, Receiver, Refusal, SetUp, Taken, PARITY_HEADER};
 use plain::Aligned;
+use prompeg::{Build, Prompeg, FFMPEG, VECTORS};
 use std::{hint::black_box, time::Instant};
 use traffic::{media, parity, Stretch};
 
@@ -198,6 +201,93 @@ fn captures(length: usize) -> (f64, f64, f64) {
     (writes, reads, copies)
 }
 
+fn sender(l: usize, d: usize, payload: usize, arrangement: Arrangement) -> Sender {
+    let streams = ParityStreams::default();
+    Sender::open(SenderSetUp { first: 65_500, arrangement, l, d, payload, streams }).unwrap()
+}
+
+/// The median time of a packet among the second half of some, where the first half, two matrices, was taken in just before: rows and
+/// columns go out as they do all day.
+fn each<T>(datagrams: &[Vec<u8>], open: impl Fn() -> T, mut one: impl FnMut(&mut T, usize)) -> f64 {
+    let half = datagrams.len() / 2;
+    let ready = |one: &mut dyn FnMut(&mut T, usize)| {
+        let mut with = open();
+        (0..half).for_each(|i| one(&mut with, i));
+        with
+    };
+    let mut times: Vec<f64> = (0..1001)
+        .map(|_| {
+            let mut with = ready(&mut one);
+            let start = Instant::now();
+            (half..datagrams.len()).for_each(|i| one(&mut with, i));
+            black_box(&with);
+            start.elapsed().as_nanos() as f64 / half as f64
+        })
+        .collect();
+    times.sort_by(f64::total_cmp);
+    times[times.len() / 2]
+}
+
+/// What our sender and FFmpeg's send over aligned columns is the same, but for the RTP header and the moment of a row.
+fn same_as_ffmpeg(build: &'static Build, datagrams: &[Vec<u8>], l: usize, d: usize, p: usize) {
+    let (mut ours, mut theirs) = (sender(l, d, p, Arrangement::Aligned), Prompeg::open(build, l, d, p));
+    let (mut row, mut packets) = (Vec::new(), 0);
+    for g in datagrams {
+        let must = theirs.write(g);
+        let sent = ours.media(g, 0).unwrap();
+        if must.row {
+            assert_eq!(theirs.last(true), &row[12..]);
+        }
+        assert_eq!(must.column, sent.column.is_some());
+        if let Some(column) = sent.column {
+            assert_eq!(theirs.last(false), &column[12..]);
+        }
+        row = sent.row.map_or(row, <[u8]>::to_vec);
+        packets += must.row as usize + must.column as usize;
+    }
+    assert!(packets > datagrams.len() / l);
+}
+
+/// FFmpeg's sender: a packet into its row and its column from a bitstring made before, and all that prompeg does but for the socket.
+fn by_ffmpeg(build: &'static Build, datagrams: &[Vec<u8>], p: usize) -> (f64, f64) {
+    same_as_ffmpeg(build, datagrams, 10, 10, p);
+    let open = || Prompeg::open(build, 10, 10, p);
+    let prompeg = open();
+    let bitstrings: Vec<Vec<u8>> = datagrams.iter().map(|g| prompeg.bitstring(g)).collect();
+    let core = each(datagrams, open, |s, i| s.xor(&datagrams[i], &bitstrings[i]));
+    let whole = each(datagrams, open, |s, i| drop(black_box(s.write(&datagrams[i]))));
+    (core, whole)
+}
+
+/// Media through a sender, L 10, D 10, P 1,316: 200 datagrams one after the other, room for 21 payloads and two outputs.
+fn sending() {
+    const P: usize = 1316;
+    let stretch = Stretch::full(P);
+    let datagrams: Vec<Vec<u8>> = (0..400).map(|i| media(&stretch, i)).collect();
+    let ours = [Arrangement::Aligned, Arrangement::Staggered].map(|arrangement| {
+        let one = |s: &mut Sender, i: usize| assert!(black_box(s.media(&datagrams[i], 0)).is_ok());
+        each(&datagrams, || sender(10, 10, P, arrangement), one)
+    });
+    let copy = each(
+        &datagrams,
+        || vec![0; room_for(10) * P],
+        |room, i| room[i % room_for(10) * P..][..P].copy_from_slice(&black_box(&datagrams[i])[12..]),
+    );
+    println!(
+        "a media packet through a sender, L 10, D 10, P 1316, with the parity packets that go out: 200 datagrams one after the other,"
+    );
+    println!("after 200 others; room for 21 payloads and two outputs of 1344 bytes, FFmpeg's for 21 bitstrings of 1324 bytes");
+    println!("  ours, aligned and staggered                           {:7.0} ns {:7.0} ns", ours[0], ours[1]);
+    let says =
+        |what: &str, time: f64| println!("  {what:53} {time:7.0} ns   ours is {:.2} and {:.2} of it", ours[0] / time, ours[1] / time);
+    for (build, how) in [(&FFMPEG, "as FFmpeg builds it"), (&VECTORS, "built with vectors")] {
+        let (core, whole) = by_ffmpeg(build, &datagrams, P);
+        says(&format!("FFmpeg's xor alone, {how}"), core);
+        says(&format!("all of prompeg but the socket, {how}"), whole);
+    }
+    says("memcpy of the payloads, to 21 places in turn", copy);
+}
+
 fn main() {
     println!("a media packet in good weather, each packet of the window in turn, L 10, D 10");
     for (n, k, p) in [(200, 40, 1316), (100, 40, 1316), (400, 40, 1316), (200, 10, 1316), (200, 128, 1316), (200, 40, 188), (200, 40, 752)]
@@ -236,6 +326,8 @@ fn main() {
         let (writes, reads, copies) = captures(length);
         println!("  {length:4} bytes each   written {writes:7.0} ns   judged {reads:7.0} ns   memcpy of the bodies {copies:7.0} ns");
     }
+    println!();
+    sending();
     // Last: ISA-L leaves the upper halves of the vector registers in use, and code without AVX is slower after it.
     println!();
     writing();

@@ -1,7 +1,7 @@
 //! The library on live traffic, over UDP on loopback. `tools/live` runs it with FFmpeg, GStreamer and tshark.
 //!
 //!     live receive CAPTURE L D SEED PORT
-//!     live send CAPTURE SEED PORT BACK
+//!     live send CAPTURE SEED PORT BACK [aligned|staggered]
 //!     live dissect CAPTURE PORT PCAP FIELDS
 //!     live mix CAPTURE SEED MIXED
 //!     live play CAPTURE PORT
@@ -24,12 +24,23 @@ const TRANSPORT: usize = 188;
 
 type Outcome = Result<(), Box<dyn Error>>;
 
+/// The first check that does not hold, by its words.
+fn all_hold(checks: &[(bool, &'static str)]) -> Outcome {
+    match checks.iter().find(|(holds, _)| !holds) {
+        Some((_, words)) => Err((*words).into()),
+        None => Ok(()),
+    }
+}
+
 fn run(args: &[&str]) -> Outcome {
     match *args {
         ["receive", capture, l, d, seed, port] => {
             receive::run(capture, Profile { l: l.parse()?, d: d.parse()? }, seed.parse()?, port.parse()?)
         }
-        ["send", capture, seed, port, back] => send::run(capture, seed.parse()?, port.parse()?, back.parse()?),
+        ["send", capture, seed, port, back] => send::run(capture, None, seed.parse()?, port.parse()?, back.parse()?),
+        ["send", capture, seed, port, back, arrangement] => {
+            send::run(capture, Some(send::arrangement(arrangement)?), seed.parse()?, port.parse()?, back.parse()?)
+        }
         ["dissect", capture, port, pcap, fields] => dissect::run(capture, port.parse()?, pcap, fields),
         ["mix", capture, seed, mixed] => traffic::mix(capture, seed.parse()?, mixed),
         ["play", capture, port] => send::play(capture, port.parse()?),

@@ -1,7 +1,7 @@
 //! Receives the three ports of a sender, drops some of the media, offers the rest to the library and compares what it rebuilt
 //! with what was sent.
 use crate::traffic::{beyond_reach, dropped, group, number, snbase, udp, write_capture, Entry, Profile, PORTS};
-use crate::{Outcome, PAYLOAD};
+use crate::{all_hold, Outcome, PAYLOAD};
 use congaveil::capture::Port;
 use congaveil::{Receiver, Refusal};
 use std::collections::{BTreeMap, BTreeSet, VecDeque};
@@ -13,8 +13,9 @@ use std::{io, thread};
 const PATIENCE: [Duration; 2] = [Duration::from_secs(30), Duration::from_secs(2)];
 
 /// A window stands still, so there is one after the other, four matrices each. The sender counts its matrices from its first
-/// packet and so do the windows: no group lies across two. The parity of a matrix comes while the next one is being sent, and media
-/// that wait are read before parity; therefore the two windows before the newest are kept.
+/// packet and so do the windows: no group lies across two, but for staggered columns, which are refused then and count for nothing.
+/// The parity of a matrix comes while the next one is being sent, and media that wait are read before parity; therefore the two windows
+/// before the newest are kept.
 struct Windows {
     profile: Profile,
     first: u16,
@@ -27,6 +28,8 @@ struct Windows {
     spoilt: usize,
     /// Media that came after they had been rebuilt.
     late: usize,
+    /// Parity whose group lies across two windows.
+    across: usize,
     refused: BTreeMap<u32, usize>,
     /// Position and datagram of every packet in the windows that were closed.
     read: BTreeMap<u16, Vec<u8>>,
@@ -44,6 +47,7 @@ impl Windows {
             rebuilt: 0,
             spoilt: 0,
             late: 0,
+            across: 0,
             refused: BTreeMap::new(),
             read: BTreeMap::new(),
         }
@@ -51,6 +55,12 @@ impl Windows {
 
     fn positions(&self) -> usize {
         4 * self.profile.matrix()
+    }
+
+    /// Whether the positions of a group lie in one window.
+    fn in_one(&self, group: &[u16]) -> bool {
+        let window = |position: &u16| *position as usize / self.positions();
+        group.iter().all(|position| window(position) == window(&group[0]))
     }
 
     /// Opens windows until one reaches as far as a number. Half the numbers count as ahead.
@@ -89,6 +99,7 @@ impl Windows {
                 self.spoilt += taken.spoilt;
             }
             Err(Refusal::Repeat) if entry.port == Port::Media => self.late += 1,
+            Err(Refusal::Outside) if entry.port == Port::Column && !self.in_one(&group(&entry.datagram, self.first)) => self.across += 1,
             Err(refusal) => *self.refused.entry(refusal.number()).or_default() += 1,
         }
         Ok(())
@@ -169,7 +180,7 @@ fn report(windows: &Windows, all: &[Entry], lost: &BTreeSet<u16>) -> Outcome {
     let first = windows.first;
     let (media, parity): (Vec<&Entry>, Vec<&Entry>) = all.iter().partition(|entry| entry.port == Port::Media);
     let sent: BTreeMap<u16, &Vec<u8>> = media.iter().map(|e| (number(&e.datagram).wrapping_sub(first), &e.datagram)).collect();
-    let groups: Vec<Vec<u16>> = parity.iter().map(|e| group(&e.datagram, first)).collect();
+    let groups: Vec<Vec<u16>> = parity.iter().map(|e| group(&e.datagram, first)).filter(|group| windows.in_one(group)).collect();
     let reach = beyond_reach(lost, &groups);
     let missing: BTreeSet<u16> = lost.iter().copied().filter(|p| !windows.read.contains_key(p)).collect();
     let rebuilt: Vec<&u16> = lost.iter().filter(|p| windows.read.contains_key(p)).collect();
@@ -181,8 +192,12 @@ fn report(windows: &Windows, all: &[Entry], lost: &BTreeSet<u16>) -> Outcome {
     println!("  dropped {}, rebuilt {}, {short} of them short, still missing {}", lost.len(), rebuilt.len(), missing.len());
     println!("  rebuilt and equal to the one sent, byte for byte: {equal}");
     println!("  beyond the reach of the parity that came: {}", reach.len());
-    if windows.late > 0 {
-        println!("  came after they had been rebuilt: {}", windows.late);
+    for (count, what) in
+        [(windows.across, "columns across two windows, which are refused"), (windows.late, "came after they had been rebuilt")]
+    {
+        if count > 0 {
+            println!("  {what}: {count}");
+        }
     }
 
     let order = media.iter().enumerate().all(|(i, e)| number(&e.datagram) == first.wrapping_add(i as u16));
@@ -193,14 +208,12 @@ fn report(windows: &Windows, all: &[Entry], lost: &BTreeSet<u16>) -> Outcome {
         (windows.read.iter().all(|(p, datagram)| sent.get(p) == Some(&datagram)), "a packet read out is not the one sent"),
         (windows.read.len() + missing.len() == sent.len(), "a packet that was offered is not present"),
         (missing == reach, "not exactly the packets beyond the parity's reach are missing"),
+        (groups.len() + windows.across == parity.len(), "a column across two windows was not refused"),
         (windows.rebuilt == rebuilt.len() + windows.late, "the answers do not add up to the packets rebuilt"),
         (windows.spoilt == 0, "parity was spoilt, and the traffic is unaltered"),
     ];
     if !windows.refused.is_empty() {
         return Err(format!("refusals, by number: {:?}", windows.refused).into());
     }
-    match checks.iter().find(|(holds, _)| !holds) {
-        Some((_, words)) => Err((*words).into()),
-        None => Ok(()),
-    }
+    all_hold(&checks)
 }

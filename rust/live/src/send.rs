@@ -1,8 +1,9 @@
-//! Writes the parity of media with the library, sends media and parity with some of the media dropped, and compares what a
-//! decoder sends back with what was sent.
+//! Writes the parity of media with the library, group by group or with its sender, sends media and parity with some of the media
+//! dropped, and compares what a decoder sends back with what was sent.
 use crate::traffic::{beyond_reach, dropped, group, media_of_capture, number, timestamp, udp, Entry, Profile};
-use crate::{Outcome, PAYLOAD};
+use crate::{all_hold, Outcome, PAYLOAD};
 use congaveil::capture::Port;
+use congaveil::{Arrangement, ParityStreams, Sender, SenderSetUp};
 use congaveil::{Outer, Receiver, Refusal, SetUp, PARITY_HEADER};
 use std::collections::{BTreeMap, BTreeSet, VecDeque};
 use std::net::{Ipv4Addr, UdpSocket};
@@ -54,6 +55,31 @@ pub fn with_parity(media: &[Vec<u8>], profile: Profile) -> Result<Vec<Entry>, Re
     Ok(entries)
 }
 
+/// An arrangement by its name.
+pub fn arrangement(name: &str) -> Result<Arrangement, String> {
+    match name {
+        "aligned" => Ok(Arrangement::Aligned),
+        "staggered" => Ok(Arrangement::Staggered),
+        _ => Err(format!("{name} is no arrangement: aligned or staggered")),
+    }
+}
+
+/// Media and parity in the order of sending, as the library's sender gives them: each media packet, then the column and the row that go
+/// out with it. A parity packet has the timestamp of that media packet.
+fn by_sender(media: &[Vec<u8>], profile: Profile, arrangement: Arrangement) -> Result<Vec<Entry>, Refusal> {
+    let Profile { l, d } = profile;
+    let streams = ParityStreams::default();
+    let mut sender = Sender::open(SenderSetUp { first: number(&media[0]), arrangement, l, d, payload: PAYLOAD, streams })?;
+    let mut entries = Vec::new();
+    for packet in media {
+        let sent = sender.media(packet, timestamp(packet))?;
+        entries.push(Entry { port: Port::Media, datagram: packet.clone() });
+        entries.extend(sent.column.map(|column| Entry { port: Port::Column, datagram: column.to_vec() }));
+        entries.extend(sent.row.map(|row| Entry { port: Port::Row, datagram: row.to_vec() }));
+    }
+    Ok(entries)
+}
+
 /// Sends the media of a capture to a port, one packet a millisecond.
 pub fn play(capture: &str, port: u16) -> Outcome {
     let out = UdpSocket::bind((Ipv4Addr::LOCALHOST, 0))?;
@@ -77,10 +103,11 @@ fn collect(socket: UdpSocket) -> io::Result<Vec<Vec<u8>>> {
     }
 }
 
-pub fn run(capture: &str, seed: u64, to: u16, back: u16) -> Outcome {
+/// With the sender and an arrangement, or without it.
+pub fn run(capture: &str, sender: Option<Arrangement>, seed: u64, to: u16, back: u16) -> Outcome {
     let (profile, media) = whole_matrices(capture)?;
     let first = number(&media[0]);
-    let entries = with_parity(&media, profile)?;
+    let entries = sender.map_or_else(|| with_parity(&media, profile), |arrangement| by_sender(&media, profile, arrangement))?;
     let groups: Vec<Vec<u16>> = entries.iter().filter(|e| e.port != Port::Media).map(|e| group(&e.datagram, first)).collect();
     let lost: BTreeSet<u16> = (0..media.len() as u16).filter(|p| dropped(*p, profile, seed)).collect();
     let reach = beyond_reach(&lost, &groups);
@@ -123,8 +150,5 @@ pub fn run(capture: &str, seed: u64, to: u16, back: u16) -> Outcome {
         (passed + lost.len() == media.len(), "media that were sent did not come back"),
         (recovered > 0 && missing == reach, "not exactly the packets beyond the parity's reach are missing"),
     ];
-    match checks.iter().find(|(holds, _)| !holds) {
-        Some((_, words)) => Err((*words).into()),
-        None => Ok(()),
-    }
+    all_hold(&checks)
 }
