@@ -174,9 +174,9 @@ module _ (s : Sender) (o : Outer) (r : Room) (out : List ℕ) where
       let e : s .at - s .at / s .l * s .l ≡ s .l - 1 = omega (arith, div-add-mod' (s .at) (s .l)) in
       rw (le-leb 4 (s .l) (ltb-false (s .l) 4 h), eq-eqb (s .at % s .l + 1) (s .l) k, e)
 
--- a packet in the sum of its column, and then in that of its row
+-- a packet in the sum of its row, and then in that of its column
 pub absorbed-both : (s : Sender) (g : List ℕ) (r one two : Room) (c : Joining) → c ≡ joiningAt (arrangementOf s) (s .l) (s .d) (s .at)
-    → one ≡ join (s .p) r (c .slot) (c .first) (alone (s .p) g) → two ≡ join (s .p) one (rowSlot (s .l)) (eqb (s .at % s .l) 0) (alone (s .p) g) → two ≡ absorbed s g r
+    → one ≡ join (s .p) r (rowSlot (s .l)) (eqb (s .at % s .l) 0) (alone (s .p) g) → two ≡ join (s .p) one (c .slot) (c .first) (alone (s .p) g) → two ≡ absorbed s g r
 unfolding absorbed joiningAt
 absorbed-both s g r one two c e e1 e2 = rw (e2, e1, e)
 

@@ -66,13 +66,11 @@ ready-join s r slot first g u v h =
         (joined-size (s .p) first (sumAt (s .p) r slot) g v (u .within slot h))
     low i k false e q = rw (getD-set-other (r .longest) slot i (joined first (sumAt (s .p) r slot) (alone (s .p) g) .size) 0 (eqb-false i slot e)) (u .within i k)
 
--- and when it comes into its column and its row
+-- and when it comes into its row and its column
 pub ready-absorbed : (s : Sender) (r : Room) (g : List ℕ) → Ready s r → Payload (s .p) (length g) → Ready s (absorbed s g r)
 unfolding absorbed
 ready-absorbed s r g u v =
     let a = arrangementOf s in
     let c = taking a (s .l) (s .d) (s .at) in
-    let w = small-of s (u .set-up) in
-    let in-room : slot (s .l) c < slots (s .l) = column-slot s r u in
-    ready-join s (join (s .p) r (slot (s .l) c) (eqb (start a (s .l) (s .d) c) (s .at)) (alone (s .p) g)) (rowSlot (s .l)) (eqb (s .at % s .l) 0) g
-    (ready-join s r (slot (s .l) c) (eqb (start a (s .l) (s .d) c) (s .at)) g u v in-room) v (omega arith)
+    ready-join s (join (s .p) r (rowSlot (s .l)) (eqb (s .at % s .l) 0) (alone (s .p) g)) (slot (s .l) c) (eqb (start a (s .l) (s .d) c) (s .at)) g
+    (ready-join s r (rowSlot (s .l)) (eqb (s .at % s .l) 0) g u v (omega arith)) v (column-slot s r u)

@@ -149,13 +149,13 @@ rowBy s o r out (some b) = packet s o row (s .at - b) (rowSlot (s .l)) r out
 unfoldable pub rowOut : Sender → Outer → Room → (out : List ℕ) → Filled
 rowOut s o r out = rowBy s o r out (rowDue (s .l) (s .at))
 
--- the next packet comes into the sum of its column and into that of its row
+-- the next packet comes into the sum of its row and into that of its column
 unfoldable pub absorbed : Sender → (datagram : List ℕ) → Room → Room
 absorbed s g r =
     join (s .p)
-    (join (s .p) r (slot (s .l) (taking (arrangementOf s) (s .l) (s .d) (s .at)))
-    (eqb (start (arrangementOf s) (s .l) (s .d) (taking (arrangementOf s) (s .l) (s .d) (s .at))) (s .at)) (alone (s .p) g))
-    (rowSlot (s .l)) (eqb (s .at % s .l) 0) (alone (s .p) g)
+    (join (s .p) r (rowSlot (s .l)) (eqb (s .at % s .l) 0) (alone (s .p) g))
+    (slot (s .l) (taking (arrangementOf s) (s .l) (s .d) (s .at)))
+    (eqb (start (arrangementOf s) (s .l) (s .d) (taking (arrangementOf s) (s .l) (s .d) (s .at))) (s .at)) (alone (s .p) g)
 
 -- what an offer gives back, and leaves in the lent room and in the outputs
 pub record Outcome : Type 0 where

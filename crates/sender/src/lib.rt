@@ -2,7 +2,7 @@
 // goes out. It keeps running sums in lent room, two for each column and one for the row, and never the matrix. Every call ends on
 // every input; a refused one changes nothing.
 //
-// A packet costs two passes over its payload, into the sum of its column and into that of its row; a parity packet costs one
+// A packet costs two passes over its payload, into the sum of its row and into that of its column; a parity packet costs one
 // copy of its payload.
 ghost use mathlib.Core.Path.{_≡_};
 ghost use mathlib.Core.Bool.{cond};
@@ -332,7 +332,8 @@ fn send_row(
     )
 }
 
-// The next packet comes into the sum of its column and into that of its row.
+// The next packet comes into the sum of its row and into that of its column. The row comes first: the processor works out the
+// column meanwhile.
 fn absorb(
     s: Sender,
     datagram: &[u8],
@@ -352,8 +353,8 @@ fn absorb(
         timestamps,
         lengths,
         longest,
-        c.slot,
-        c.first,
+        2 * l,
+        s.at % l == 0,
         datagram,
         s.p,
     );
@@ -362,8 +363,8 @@ fn absorb(
         timestamps,
         lengths,
         longest,
-        2 * l,
-        s.at % l == 0,
+        c.slot,
+        c.first,
         datagram,
         s.p,
     );

@@ -89,19 +89,18 @@ absorbs s r g u v y good =
     let f = eqb (start (arrangementOf s) (s .l) (s .d) (taking (arrangementOf s) (s .l) (s .d) (s .at))) (s .at) in
     let k = eqb (s .at % s .l) 0 in
     let x = alone (s .p) g in
-    let one = join (s .p) r c f x in
-    let qc = slot-of s r c (u .set-up) (u .roomy) (column-slot s r u) in
-    let w = ready-join s r c f g u v (column-slot s r u) in
-    let qr = slot-of s one (rowSlot (s .l)) (w .set-up) (w .roomy) (omega arith) in
-    let q0 = slot-of s r (rowSlot (s .l)) (u .set-up) (u .roomy) (omega arith) in
-    let hc = joined-length (s .p) f (sumAt (s .p) r c) g (sum-sized (s .p) r c qc) in
-    let hr = joined-length (s .p) k (sumAt (s .p) one (rowSlot (s .l))) g (sum-sized (s .p) one (rowSlot (s .l)) qr) in
+    let one = join (s .p) r (rowSlot (s .l)) k x in
+    let qr = slot-of s r (rowSlot (s .l)) (u .set-up) (u .roomy) (omega arith) in
+    let w = ready-join s r (rowSlot (s .l)) k g u v (omega arith) in
+    let qc = slot-of s one c (w .set-up) (w .roomy) (column-slot s r u) in
+    let hr = joined-length (s .p) k (sumAt (s .p) r (rowSlot (s .l))) g (sum-sized (s .p) r (rowSlot (s .l)) qr) in
+    let hc = joined-length (s .p) f (sumAt (s .p) one c) g (sum-sized (s .p) one c qc) in
     record {
-      own = sum-other (s .p) one (rowSlot (s .l)) _ qr hr c (λ e. below s r u e) ∙ sum-same (s .p) r c _ qc hc;
-      row =
-          sum-same (s .p) one (rowSlot (s .l)) _ qr hr
-          ∙ ap (λ (z : Recovery). joined k z x) (sum-other (s .p) r c _ qc hc (rowSlot (s .l)) (λ e. below s r u (sym e)));
-      others = λ t h n. sum-other (s .p) one (rowSlot (s .l)) _ qr hr t (λ e. absurd (omega arith)) ∙ sum-other (s .p) r c _ qc hc t n;
+      own =
+          sum-same (s .p) one c _ qc hc
+          ∙ ap (λ (z : Recovery). joined f z x) (sum-other (s .p) r (rowSlot (s .l)) _ qr hr c (below s r u));
+      row = sum-other (s .p) one c _ qc hc (rowSlot (s .l)) (λ e. below s r u (sym e)) ∙ sum-same (s .p) r (rowSlot (s .l)) _ qr hr;
+      others = λ t h n. sum-other (s .p) one c _ qc hc t n ∙ sum-other (s .p) r (rowSlot (s .l)) _ qr hr t (λ e. absurd (omega arith));
     }
   where
     below : (s : Sender) (r : Room) → Ready s r → slot (s .l) (taking (arrangementOf s) (s .l) (s .d) (s .at)) ≡ rowSlot (s .l) → ⊥

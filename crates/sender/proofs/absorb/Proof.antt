@@ -14,25 +14,25 @@ named-requires c κs = search needs
 column-in-requires : tie.Need-column-in-requires
 column-in-requires c κs = (small-of (c .before .before .before .before .before .before .args .s) (c .before .before .before .before .before .before .pre .0 .set-up), omega (arith, c .before .before .before .before .before .before .pre .0 .at-low, c .before .before .before .before .before .before .pre .0 .set-up .profile .area))
 
-join-requires : tie.Need-join-requires
-join-requires c κs =
-    let a = c .before .before .before .before .before .before .before .before .before .before .before .args in
-    let r = lent (a .payloads .now) (a .timestamps .now) (a .lengths .now) (a .longest .now) in
-    let h = joining-fits (a .s) r (c .before .before .before .before .before .before .before .before .before .before .before .pre .0) (c .before .before .before .before .column-in .result) (rw (← c .before .before .before .before .before .named .ensures) (c .before .before .before .before .column-in .ensures)) in
-    (slot-of (a .s) r (c .before .before .before .before .column-in .result .slot) (c .before .before .before .before .before .before .before .before .before .before .before .pre .0 .set-up) (c .before .before .before .before .before .before .before .before .before .before .before .pre .0 .roomy) h, c .before .before .before .before .before .before .before .before .before .before .before .pre .1)
-
 mul-join : tie.Need-mul-join
 mul-join c = search needs
 
 rem-join : tie.Need-rem-join
-rem-join c = omega (arith, c .before .before .before .before .before .before .before .before .before .before .before .before .before .before .before .before .before .before .before .before .before .before .before .before .before .pre .0 .set-up .profile .l-low)
+rem-join c = omega (arith, c .before .before .before .before .before .before .before .before .before .before .before .before .pre .0 .set-up .profile .l-low)
+
+join-requires : tie.Need-join-requires
+join-requires c κs =
+    let a = c .before .before .before .before .before .before .before .before .before .before .before .before .args in
+    let r = lent (a .payloads .now) (a .timestamps .now) (a .lengths .now) (a .longest .now) in
+    (slot-of (a .s) r (2 * a .s .l) (c .before .before .before .before .before .before .before .before .before .before .before .before .pre .0 .set-up) (c .before .before .before .before .before .before .before .before .before .before .before .before .pre .0 .roomy) (omega arith), c .before .before .before .before .before .before .before .before .before .before .before .before .pre .1)
 
 join-requires-2 : tie.Need-join-requires-2
 join-requires-2 c κs =
     let a = c .before .before .before .before .before .before .before .before .before .before .before .before .before .before .before .before .before .before .before .before .before .before .before .before .before .args in
     let r = lent (a .payloads .now) (a .timestamps .now) (a .lengths .now) (a .longest .now) in
-    let q = slot-of (a .s) r (2 * a .s .l) (c .before .before .before .before .before .before .before .before .before .before .before .before .before .before .before .before .before .before .before .before .before .before .before .before .before .pre .0 .set-up) (c .before .before .before .before .before .before .before .before .before .before .before .before .before .before .before .before .before .before .before .before .before .before .before .before .before .pre .0 .roomy) (omega arith) in
-    let k = c .before .before .before .before .before .before .before .before .before .before .before .before .before .join .kept in
+    let h = joining-fits (a .s) r (c .before .before .before .before .before .before .before .before .before .before .before .before .before .before .before .before .before .before .before .before .before .before .before .before .before .pre .0) (c .before .before .before .before .before .before .before .before .before .before .before .before .before .before .before .before .before .before .column-in .result) (rw (← c .before .before .before .before .before .before .before .before .before .before .before .before .before .before .before .before .before .before .before .named .ensures) (c .before .before .before .before .before .before .before .before .before .before .before .before .before .before .before .before .before .before .column-in .ensures)) in
+    let q = slot-of (a .s) r (c .before .before .before .before .before .before .before .before .before .before .before .before .before .before .before .before .before .before .column-in .result .slot) (c .before .before .before .before .before .before .before .before .before .before .before .before .before .before .before .before .before .before .before .before .before .before .before .before .before .pre .0 .set-up) (c .before .before .before .before .before .before .before .before .before .before .before .before .before .before .before .before .before .before .before .before .before .before .before .before .before .pre .0 .roomy) h in
+    let k = c .before .before .before .before .before .before .before .before .before .before .before .before .join .kept in
     (record { low = q .low; payload-ends = omega (arith, q .payload-ends, k); timestamp-inside = omega (arith, q .timestamp-inside, k); length-inside = omega (arith, q .length-inside, k); longest-inside = omega (arith, q .longest-inside, k) }, c .before .before .before .before .before .before .before .before .before .before .before .before .before .before .before .before .before .before .before .before .before .before .before .before .before .pre .1)
 
 same-length : tie.Need-same-length
@@ -50,7 +50,7 @@ same-length-4 c = search needs
 returns : tie.Need-returns
 returns c =
     let a = c .before .before .before .before .before .before .before .before .before .before .before .before .before .before .before .before .before .before .before .before .before .before .before .before .before .before .before .before .before .before .before .before .before .before .args in
-    absorbed-both (a .s) (a .datagram .now) (lent (a .payloads .now) (a .timestamps .now) (a .lengths .now) (a .longest .now)) _ _ (c .before .before .before .before .before .before .before .before .before .before .before .before .before .before .before .before .before .before .before .before .before .before .before .before .before .before .before .column-in .result) (rw (← c .before .before .before .before .before .before .before .before .before .before .before .before .before .before .before .before .before .before .before .before .before .before .before .before .before .before .before .before .named .ensures) (c .before .before .before .before .before .before .before .before .before .before .before .before .before .before .before .before .before .before .before .before .before .before .before .before .before .before .before .column-in .ensures)) (c .before .before .before .before .before .before .before .before .before .before .before .before .before .before .before .before .before .before .before .before .before .before .join .ensures) (c .before .before .before .before .before .before .before .before .join2 .ensures)
+    absorbed-both (a .s) (a .datagram .now) (lent (a .payloads .now) (a .timestamps .now) (a .lengths .now) (a .longest .now)) _ _ (c .before .before .before .before .before .before .before .before .before .before .before .before .before .before .before .before .before .before .before .before .before .before .before .before .before .before .before .column-in .result) (rw (← c .before .before .before .before .before .before .before .before .before .before .before .before .before .before .before .before .before .before .before .before .before .before .before .before .before .before .before .before .named .ensures) (c .before .before .before .before .before .before .before .before .before .before .before .before .before .before .before .before .before .before .before .before .before .before .before .before .before .before .before .column-in .ensures)) (c .before .before .before .before .before .before .before .before .before .before .before .before .before .before .before .before .before .before .before .before .before .join .ensures) (c .before .before .before .before .before .before .before .before .join2 .ensures)
 
 pub absorb-spec : {M : Type 1} → statement M
 absorb-spec =
@@ -58,9 +58,9 @@ absorb-spec =
     (tie.spec
     named-requires
     column-in-requires
-    join-requires
     mul-join
     rem-join
+    join-requires
     join-requires-2
     same-length
     same-length-2
