@@ -91,17 +91,17 @@ pub record AsBase (u : SetUp) (datagrams : List (List ℕ)) (o : Outer) (stream 
       → first (writeTests w stream (numberAt width (u .first) b) s before) ≡ 0
       → _≡_ {A = Written} (record { answer = Done bytes 0; window = w; out = after }) (wroteParity stream w (numberAt width (u .first) b) (outer o) s before)
 
--- what the row output has to be with packet i
-abbrev pub RowSent : SetUp → (datagrams : List (List ℕ)) → Outer → (i bytes : ℕ) → (before after : List ℕ) → Option ℕ → Type 0
-RowSent u gs o i bytes before after none = Untouched bytes before after
-RowSent u gs o i bytes before after (some b) = AsBase u gs o row b bytes before after
+-- what the row output has to be, by the row that is due
+abbrev pub RowSent : SetUp → (datagrams : List (List ℕ)) → Outer → (bytes : ℕ) → (before after : List ℕ) → Option ℕ → Type 0
+RowSent u gs o bytes before after none = Untouched bytes before after
+RowSent u gs o bytes before after (some b) = AsBase u gs o row b bytes before after
 
--- what the column output has to be with packet i
-abbrev pub ColumnSent : SetUp → (datagrams : List (List ℕ)) → Outer → (i bytes : ℕ) → (before after : List ℕ) → Option Cycle → Type 0
-ColumnSent u gs o i bytes before after none = Untouched bytes before after
-ColumnSent u gs o i bytes before after (some c) = AsBase u gs o column (start (named (u .arrangement)) (u .l) (u .d) c) bytes before after
+-- what the column output has to be, by the column that is due
+abbrev pub ColumnSent : SetUp → (datagrams : List (List ℕ)) → Outer → (bytes : ℕ) → (before after : List ℕ) → Option Cycle → Type 0
+ColumnSent u gs o bytes before after none = Untouched bytes before after
+ColumnSent u gs o bytes before after (some c) = AsBase u gs o column (start (named (u .arrangement)) (u .l) (u .d) c) bytes before after
 
 -- what goes out with packet i, the next of a life, is what the schedule has for it
 pub record Sends (u : SetUp) (datagrams : List (List ℕ)) (i : ℕ) (o : Offer) (y : Outcome) : Type 0 where
-  pub row : RowSent u datagrams (o .row) i (y .sent .row) (o .rowOut) (y .row) (rowDue (u .l) i)
-  pub column : ColumnSent u datagrams (o .column) i (y .sent .column) (o .columnOut) (y .column) (columnDue (named (u .arrangement)) (u .l) (u .d) i)
+  pub row : RowSent u datagrams (o .row) (y .sent .row) (o .rowOut) (y .row) (rowDue (u .l) i)
+  pub column : ColumnSent u datagrams (o .column) (y .sent .column) (o .columnOut) (y .column) (columnDue (named (u .arrangement)) (u .l) (u .d) i)

@@ -106,7 +106,7 @@ module _ (s : Sender) (r : Room) (gs : List (List ℕ)) (v : Lives s r gs) (o : 
   number : (back b : ℕ) → b + back ≡ length gs → back ≤ 300 → ahead width back (nextNumber s) ≡ numberAt width (s .first) b
   number back b e h = rw (v .taken) (number-back (s .first) (length gs) back b e (omega arith))
 
-  row-sent : RowSent (setUpOf s) all (o .row) (length gs) (rowOut s (o .row) (absorbed s x r) (o .rowOut) .bytes) (o .rowOut) (rowOut s (o .row) (absorbed s x r) (o .rowOut) .out) (rowDue (s .l) (length gs))
+  row-sent : RowSent (setUpOf s) all (o .row) (rowOut s (o .row) (absorbed s x r) (o .rowOut) .bytes) (o .rowOut) (rowOut s (o .row) (absorbed s x r) (o .rowOut) .out) (rowDue (s .l) (length gs))
   unfolding rowOut
   row-sent = rw (rowDue-place (s .l) (s .d) (w .columns) (w .rows) (arrangementOf s) (s .at) (length gs) place) (go (rowDue (s .l) (s .at)) refl)
     where
@@ -114,7 +114,7 @@ module _ (s : Sender) (r : Room) (gs : List (List ℕ)) (v : Lives s r gs) (o : 
       t = place .turns * (2 * (s .l * s .d))
 
       go : (q : Option ℕ) → rowDue (s .l) (s .at) ≡ q
-          → RowSent (setUpOf s) all (o .row) (length gs) (rowBy s (o .row) (absorbed s x r) (o .rowOut) q .bytes) (o .rowOut) (rowBy s (o .row) (absorbed s x r) (o .rowOut) q .out) (map (λ b. b + t) q)
+          → RowSent (setUpOf s) all (o .row) (rowBy s (o .row) (absorbed s x r) (o .rowOut) q .bytes) (o .rowOut) (rowBy s (o .row) (absorbed s x r) (o .rowOut) q .out) (map (λ b. b + t) q)
       go none e = record { none-written = refl; same = refl }
       go (some b) e =
           let f = rowDue-last (s .l) (s .d) (w .columns) (w .rows) (arrangementOf s) (s .at) b e in
@@ -123,12 +123,12 @@ module _ (s : Sender) (r : Room) (gs : List (List ℕ)) (v : Lives s r gs) (o : 
           (number (s .at - b) (b + t) (omega (arith, place .is)) (omega (arith, w .columns-most)))
           (row-whole together (empty (s .p)) (Sized (s .p)) (together-laws (s .p)) (packets (s .p) (datagramAt all)) (packets-sized (s .p) (datagramAt all)) (arrangementOf s) (s .l) (s .d) (w .columns) (w .rows) (length gs) (s .at) (sumAt (s .p) r) (v .kept (datagramAt all) goes) (sumAt (s .p) (absorbed s x r)) joins (b + t) due)
 
-  column-sent : ColumnSent (setUpOf s) all (o .column) (length gs) (columnOut s (o .column) r (o .columnOut) .bytes) (o .columnOut) (columnOut s (o .column) r (o .columnOut) .out) (columnDue (arrangementOf s) (s .l) (s .d) (length gs))
+  column-sent : ColumnSent (setUpOf s) all (o .column) (columnOut s (o .column) r (o .columnOut) .bytes) (o .columnOut) (columnOut s (o .column) r (o .columnOut) .out) (columnDue (arrangementOf s) (s .l) (s .d) (length gs))
   unfolding columnOut
   column-sent = rw (columnDue-place (s .l) (s .d) (w .columns) (w .rows) (arrangementOf s) (s .at) (length gs) place) (go (columnDue (arrangementOf s) (s .l) (s .d) (s .at)) refl)
     where
       go : (q : Option Cycle) → columnDue (arrangementOf s) (s .l) (s .d) (s .at) ≡ q
-          → ColumnSent (setUpOf s) all (o .column) (length gs) (columnBy s (o .column) r (o .columnOut) q .bytes) (o .columnOut) (columnBy s (o .column) r (o .columnOut) q .out) (map (later (place .turns)) q)
+          → ColumnSent (setUpOf s) all (o .column) (columnBy s (o .column) r (o .columnOut) q .bytes) (o .columnOut) (columnBy s (o .column) r (o .columnOut) q .out) (map (later (place .turns)) q)
       go none e = record { none-written = refl; same = refl }
       go (some c) e =
           let a = arrangementOf s in
