@@ -8,7 +8,7 @@ use native.Mathlib.Nat.{mod-lt, div-add-mod', le-div-iff-mul-le, mul-le-mul-left
 use native.Mathlib.Omega.{arith}
 use lib.Dec.{eqb, leb}
 use borrow.Author.Tests.{eqb-true, eqb-false, eq-eqb, ne-eqb}
-use Rattle.schedule.specs.Schedule.{Arrangement, Aligned, Staggered, Cycle, shift, start, due, turn, leaving, columnDue, rowDue, taking, slot, onward}
+use Rattle.schedule.specs.Schedule.{Arrangement, Aligned, Staggered, Cycle, shift, start, due, turn, leaving, columnDue, rowDue, taking, slot, matrices, onward}
 use Rattle.schedule.specs.Exact.{cyc, lt-or-le, quotient, remainder, shift-lt}
 
 -- ---- the schedule repeats: t double matrices later everything is the same, t * 2 cycles on
@@ -91,7 +91,7 @@ pub record Place (N p i : ℕ) : Type 0 where
   pub turns : ℕ
   pub is : i ≡ p + turns * (2 * N)
   pub first : p < N → turns ≡ 0
-  pub bounded : p < 3 * N
+  pub bounded : p < matrices * N
 
 pub onward-place : (N p i : ℕ) → 0 < N → Place N p i → Place N (onward N p) (suc i)
 unfolding onward

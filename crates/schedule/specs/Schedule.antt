@@ -62,6 +62,10 @@ slot L c = c .column + L * (c .cycle % 2)
 abbrev pub rowSlot : (L : ℕ) → ℕ
 rowSlot L = 2 * L
 
+-- to how many matrices the counter of a sender counts
+abbrev pub matrices : ℕ
+matrices = 3
+
 -- the counter after p, where a matrix has N packets: it counts to three matrices and falls back by two, so that it stays past the first one
 unfoldable pub onward : (N p : ℕ) → ℕ
-onward N p = cond (eqb (p + 1) (3 * N)) N (p + 1)
+onward N p = cond (eqb (p + 1) (matrices * N)) N (p + 1)

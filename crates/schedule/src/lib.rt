@@ -12,6 +12,9 @@ pub enum Arrangement {
     Staggered,
 }
 
+// To how many matrices the counter of a sender counts.
+pub const MATRICES: usize = 3;
+
 // Whether a column goes out with a packet, in which slot its sum stands, and how many packets before this one it starts.
 pub struct Leaving {
     pub sends: bool,
@@ -41,7 +44,7 @@ pub fn next_at(n: usize, at: usize) -> usize
     requires { ⌜ (n ≤ 100) × (at < 300) ⌝ }
     ensures { λ r. ⌜ r ≡ onward n at ⌝ }
 {
-    if at + 1 == 3 * n { n } else { at + 1 }
+    if at + 1 == MATRICES * n { n } else { at + 1 }
 }
 
 // a - b, or 0 where b is more.

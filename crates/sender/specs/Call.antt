@@ -16,7 +16,7 @@ use Rattle.window.specs.Limits.{width, badProfile, badPayload}
 use Rattle.calls.specs.Datagram as datagram
 use Rattle.calls.specs.Call.{asked, zeroed, over}
 use Rattle.schedule.specs.declared.Arrangement.{Arrangement}
-use Rattle.schedule.specs.Schedule.{Cycle, named, start, columnDue, rowDue, taking, slot, rowSlot, onward}
+use Rattle.schedule.specs.Schedule.{Cycle, named, start, columnDue, rowDue, taking, slot, rowSlot, matrices, onward}
 use Rattle.sender.specs.declared.Sender.{Sender}
 use Rattle.sender.specs.declared.Outer.{Outer}
 use Rattle.sender.specs.declared.Sent.{Sent}
@@ -61,20 +61,19 @@ shortOutput s room = ltb room (parityHeaderSize + s .p)
 
 -- 5: the counter is past the profile, or a longest length past P
 abbrev pub astray : Sender → (longest : List ℕ) → Bool
-astray s longest = not (ltb (s .at) (3 * (s .l * s .d))) || not (all (λ n. leb n (s .p)) (take (slots (s .l)) longest))
+astray s longest = not (ltb (s .at) (matrices * (s .l * s .d))) || not (all (λ n. leb n (s .p)) (take (slots (s .l)) longest))
+
+-- what a made-up sender value meets first: 1 and 2; 3 is of windows
+abbrev pub setUpTests : Sender → List (ℕ × Bool)
+setUpTests s = (1, badProfile (profile s)) ∷ (2, badPayload (profile s)) ∷ []
 
 -- the tests of an opening: 1, 2 and 4
 abbrev pub openTests : Sender → Room → List (ℕ × Bool)
-openTests s r = (1, badProfile (profile s)) ∷ (2, badPayload (profile s)) ∷ (4, shortRoom s r) ∷ []
+openTests s r = setUpTests s ++ ((4, shortRoom s r) ∷ [])
 
--- what an offer meets before its datagram is looked at: 1, 2, 4 and 5; 3 is of windows
+-- what an offer meets before its datagram is looked at: 1, 2, 4 and 5
 abbrev pub standingTests : Sender → Room → (row column : ℕ) → List (ℕ × Bool)
-standingTests s r row column =
-    (1, badProfile (profile s))
-    ∷ (2, badPayload (profile s))
-    ∷ (4, shortRoom s r || shortOutput s row || shortOutput s column)
-    ∷ (5, astray s (r .longest))
-    ∷ []
+standingTests s r row column = setUpTests s ++ ((4, shortRoom s r || shortOutput s row || shortOutput s column) ∷ (5, astray s (r .longest)) ∷ [])
 
 -- 13: another number than the next
 abbrev pub numberTests : Sender → (datagram : List ℕ) → List (ℕ × Bool)
@@ -113,10 +112,13 @@ fresh first arrangement l d p = record { first = first; taken = 0; arrangement =
 
 -- ---- an offer
 
+-- what a parity packet takes from the caller, as the base has it
+abbrev pub outer : Outer → datagram.Outer
+outer o = record { sequence = o .sequence; timestamp = o .timestamp; ssrc = o .ssrc }
+
 -- the parity packet of a group that starts so many packets before the next one, of the sum in a slot, with the caller's numbers
 abbrev pub packetOf : Sender → Outer → (stream back slot : ℕ) → Room → List ℕ
-packetOf s o stream back slot r =
-    datagram.parityPacket (record { sequence = o .sequence; timestamp = o .timestamp; ssrc = o .ssrc }) stream (s .l) (s .d) (ahead width back (nextNumber s)) (sumAt (s .p) r slot)
+packetOf s o stream back slot r = datagram.parityPacket (outer o) stream (s .l) (s .d) (ahead width back (nextNumber s)) (sumAt (s .p) r slot)
 
 -- what an offer leaves in an output, and how many bytes it wrote there
 pub record Filled : Type 0 where

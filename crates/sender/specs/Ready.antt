@@ -14,18 +14,14 @@ use Rattle.rtp.specs.Rtp.{rtpHeaderSize, sequenceNumber}
 use Rattle.rtp.specs.Fec.{parityHeaderSize}
 use Rattle.rtp.specs.Length.{goodLength, whole-high}
 use Rattle.rtp.specs.Faults.{mediaTests}
-use Rattle.window.specs.Limits.{badProfile, badPayload}
 use Rattle.window.specs.Bounds.{Profile, profile-good, payload-good}
+use Rattle.schedule.specs.Schedule.{matrices}
 use Rattle.schedule.specs.Numbers.{Small}
 use Rattle.sender.specs.declared.Sender.{Sender}
 use Rattle.sender.specs.Sums.{Room, slots}
-use Rattle.sender.specs.Call.{profile, nextNumber, shortOutput, astray, shortRoom, standingTests, offerTests}
+use Rattle.sender.specs.Call.{profile, nextNumber, setUpTests, shortOutput, astray, shortRoom, standingTests, offerTests}
 
 -- ---- the tests by sizes
-
--- refusals 1 and 2
-abbrev pub setUpTests : Sender → List (ℕ × Bool)
-setUpTests s = (1, badProfile (profile s)) ∷ (2, badPayload (profile s)) ∷ []
 
 -- `shortRoom`, by how many elements the parts have
 abbrev pub shortBy : Sender → (payloads timestamps lengths longest : ℕ) → Bool
@@ -69,7 +65,7 @@ pub record Roomy (s : Sender) (r : Room) : Type 0 where
 pub record Ready (s : Sender) (r : Room) : Type 0 where
   pub set-up : SetUp s
   pub roomy : Roomy s r
-  pub at-low : s .at < 3 * (s .l * s .d)
+  pub at-low : s .at < matrices * (s .l * s .d)
   pub within : (i : ℕ) → i < slots (s .l) → getD (r .longest) i 0 ≤ s .p
 
 -- a datagram's payload is no longer than P
@@ -125,11 +121,11 @@ module _ (s : Sender) (r : Room) (row column : ℕ) where
       let four = or-split (shortRoom s r || shortOutput s row) (shortOutput s column) (none .1 .1 .0) in
       let three = or-split (shortRoom s r) (shortOutput s row) (four .0) in
       let room = roomy-of s r (three .0) in
-      let five = or-split (not (ltb (s .at) (3 * (s .l * s .d)))) (not (all (λ n. leb n (s .p)) (take (slots (s .l)) (r .longest)))) (none .1 .1 .1 .0) in (
+      let five = or-split (not (ltb (s .at) (matrices * (s .l * s .d)))) (not (all (λ n. leb n (s .p)) (take (slots (s .l)) (r .longest)))) (none .1 .1 .1 .0) in (
         record {
           set-up = set-up-good s (first-front (setUpTests s) ((4, shortRoom s r || shortOutput s row || shortOutput s column) ∷ (5, astray s (r .longest)) ∷ []) e);
           roomy = room;
-          at-low = ltb-true (s .at) (3 * (s .l * s .d)) (not-false _ (five .0));
+          at-low = ltb-true (s .at) (matrices * (s .l * s .d)) (not-false _ (five .0));
           within = all-within (s .p) (slots (s .l)) (r .longest) (room .longest-long) (not-false _ (five .1));
         },
         ltb-false row (parityHeaderSize + s .p) (three .1),

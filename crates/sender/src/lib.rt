@@ -14,9 +14,10 @@ ghost use lib.Seq.{paste};
 ghost use Rattle.answer.specs.First.{first};
 ghost use Rattle.sequence.specs.Lists.{all};
 ghost use Rattle.xor.specs.Xor.{zipXor, padded};
+ghost use Rattle.schedule.specs.Schedule.{matrices};
 ghost use Rattle.sender.specs.Sums.{lent, slots, alone, join};
-ghost use Rattle.sender.specs.Call.{astray, cleared, noSender, fresh, opened, packet, columnOut, rowOut, absorbed, nextSender, offered};
-ghost use Rattle.sender.specs.Ready.{setUpTests, shortBy, openBy, standingBy, outOfTurn, offerBy, SetUp, Roomy, Ready, Slot, Payload};
+ghost use Rattle.sender.specs.Call.{astray, cleared, noSender, fresh, opened, packet, columnOut, rowOut, absorbed, nextSender, offered, setUpTests};
+ghost use Rattle.sender.specs.Ready.{shortBy, openBy, standingBy, outOfTurn, offerBy, SetUp, Roomy, Ready, Slot, Payload};
 
 // A sender's value: its set-up numbers, and where it stands.
 #[repr(C)]
@@ -150,7 +151,7 @@ fn is_astray(s: Sender, longest: &[u16]) -> bool
     requires { ⌜ SetUp s × (slots (s .l) ≤ length (now longest)) ⌝ }
     ensures { λ r. ⌜ r ≡ astray s (now (longest .entry)) ⌝ }
 {
-    !(s.at < 3 * (s.l * s.d)) | !all_within(longest, 2 * s.l + 1, s.p as u16)
+    !(s.at < schedule::MATRICES * (s.l * s.d)) | !all_within(longest, 2 * s.l + 1, s.p as u16)
 }
 
 // The first of refusals 1 and 2 that applies, or 0.
@@ -473,7 +474,7 @@ impl Sender {
 
     // The sender value after a packet.
     fn onward(self) -> Sender
-        requires { ⌜ SetUp self × (self .at < 3 * (self .l * self .d)) ⌝ }
+        requires { ⌜ SetUp self × (self .at < matrices * (self .l * self .d)) ⌝ }
         ensures { λ r. ⌜ r ≡ nextSender self ⌝ }
     {
         Sender {

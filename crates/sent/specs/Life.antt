@@ -13,13 +13,12 @@ use Rattle.rtp.specs.Fec.{column, row}
 use Rattle.window.specs.declared.Window.{Window}
 use Rattle.window.specs.Limits.{width}
 use Rattle.window.specs.Store.{Store}
-use Rattle.calls.specs.Datagram as base
 use Rattle.calls.specs.Call.{Written, writeTests, wroteParity}
 use Rattle.schedule.specs.Schedule.{Cycle, named, start, columnDue, rowDue}
 use Rattle.sender.specs.declared.Sender.{Sender}
 use Rattle.sender.specs.declared.Outer.{Outer}
 use Rattle.sender.specs.Sums.{Room}
-use Rattle.sender.specs.Call.{Opened, fresh, opened, Outcome, offered}
+use Rattle.sender.specs.Call.{Opened, fresh, opened, outer, Outcome, offered}
 use Rattle.sent.specs.Written.{Holds}
 
 -- an offer: a media datagram, the numbers for the two parity packets, and the two outputs
@@ -69,10 +68,6 @@ opening u r = opened (fresh (u .first) (u .arrangement) (u .l) (u .d) (u .p)) r
 -- the life of a sender from its opening on
 abbrev pub life : SetUp → Room → List Offer → Life
 life u r os = after (record { sender = opening u r .sent .sender; room = opening u r .room; taken = [] }) os
-
--- the numbers of a parity packet as the base takes them
-abbrev pub outer : Outer → base.Outer
-outer o = record { sequence = o .sequence; timestamp = o .timestamp; ssrc = o .ssrc }
 
 -- datagram i of those that were taken
 abbrev pub datagramAt : List (List ℕ) → ℕ → List ℕ

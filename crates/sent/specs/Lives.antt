@@ -20,8 +20,8 @@ use Rattle.schedule.specs.Schedule.{onward}
 use Rattle.schedule.specs.Numbers.{Small}
 use Rattle.sender.specs.declared.Sender.{Sender}
 use Rattle.sender.specs.Sums.{Room, slots, sumAt, alone, together}
-use Rattle.sender.specs.Call.{arrangementOf, nextSender, shortRoom, shortOutput, astray, standingTests, numberTests, offerTests, openTests, cleared, fresh, absorbed}
-use Rattle.sender.specs.Ready.{setUpTests, Ready, Payload, set-up-good, roomy-of, small-of}
+use Rattle.sender.specs.Call.{arrangementOf, nextSender, shortRoom, shortOutput, astray, standingTests, numberTests, offerTests, openTests, cleared, fresh, absorbed, setUpTests}
+use Rattle.sender.specs.Ready.{Ready, Payload, set-up-good, roomy-of, small-of}
 use Rattle.sender.specs.Absorbed.{ready-absorbed}
 use Rattle.sent.specs.Kept.{Kept, kept-start, kept-next}
 use Rattle.sent.specs.Room.{empty, Sized, together-laws, alone-sized, absorbs}

@@ -32,23 +32,23 @@ use Rattle.schedule.specs.Numbers.{Small}
 use Rattle.sender.specs.declared.Sender.{Sender}
 use Rattle.sender.specs.declared.Outer.{Outer}
 use Rattle.sender.specs.Sums.{Room, sumAt, together}
-use Rattle.sender.specs.Call.{arrangementOf, nextNumber, offerTests, openTests, numberTests, fresh, opened, absorbed, packet, columnBy, columnOut, rowBy, rowOut, Outcome, took, refused, offered}
+use Rattle.sender.specs.Call.{arrangementOf, nextNumber, outer, offerTests, openTests, numberTests, fresh, opened, absorbed, packet, columnBy, columnOut, rowBy, rowOut, Outcome, took, refused, offered}
 use Rattle.sender.specs.Ready.{Taken, small-of, offer-taken}
 use Rattle.sent.specs.Sums.{over}
 use Rattle.sent.specs.Kept.{Joins, row-whole, column-whole}
 use Rattle.sent.specs.Room.{empty, Sized, together-laws, absorbs}
 use Rattle.sent.specs.Written.{written-sum}
-use Rattle.sent.specs.Life.{Offer, Life, answer, next, after, SetUp, opening, life, outer, datagramAt, AsBase, RowSent, ColumnSent, Sends}
+use Rattle.sent.specs.Life.{Offer, Life, answer, next, after, SetUp, opening, life, datagramAt, AsBase, RowSent, ColumnSent, Sends}
 use Rattle.sent.specs.Lives.{packets, packets-sized, Lives, lives-open, lives-next, last-of, takes as takes-every}
 
 -- ---- numbers
 
--- the number that lies so many before the next one
-number-back : (first n back b : ℕ) → b + back ≡ n → back ≤ 2 ^ 16 → ahead 16 back (numberAt 16 first (n % 2 ^ 16)) ≡ numberAt 16 first b
-number-back f n back b e h =
-    let one : (f + n % 2 ^ 16) % 2 ^ 16 ≡ (f + n) % 2 ^ 16 = add-mod-mod f n (2 ^ 16) in
-    let two : f + n + (2 ^ 16 - back) ≡ f + b + 2 ^ 16 = omega arith in
-    ap (λ (k : ℕ). (k + (2 ^ 16 - back)) % 2 ^ 16) one ∙ mod-add-mod (f + n) (2 ^ 16) (2 ^ 16 - back) ∙ ap (λ (k : ℕ). k % 2 ^ 16) two ∙ add-mod-right (f + b) (2 ^ 16)
+-- the number that lies so many before the next one, for numbers of w bits
+number-back : (w first n back b : ℕ) → b + back ≡ n → back ≤ 2 ^ w → ahead w back (numberAt w first (n % 2 ^ w)) ≡ numberAt w first b
+number-back w f n back b e h =
+    let one : (f + n % 2 ^ w) % 2 ^ w ≡ (f + n) % 2 ^ w = add-mod-mod f n (2 ^ w) in
+    let two : f + n + (2 ^ w - back) ≡ f + b + 2 ^ w = omega arith in
+    ap (λ (k : ℕ). (k + (2 ^ w - back)) % 2 ^ w) one ∙ mod-add-mod (f + n) (2 ^ w) (2 ^ w - back) ∙ ap (λ (k : ℕ). k % 2 ^ w) two ∙ add-mod-right (f + b) (2 ^ w)
 
 -- ---- a packet that goes out is the base's
 
@@ -104,7 +104,7 @@ module _ (s : Sender) (r : Room) (gs : List (List ℕ)) (v : Lives s r gs) (o : 
   joins = rw (last-of gs x) (absorbs s r x (v .ready) (u .payload) (packets (s .p) (datagramAt all)) (packets-sized (s .p) (datagramAt all)))
 
   number : (back b : ℕ) → b + back ≡ length gs → back ≤ 300 → ahead width back (nextNumber s) ≡ numberAt width (s .first) b
-  number back b e h = rw (v .taken) (number-back (s .first) (length gs) back b e (omega arith))
+  number back b e h = rw (v .taken) (number-back width (s .first) (length gs) back b e (omega arith))
 
   row-sent : RowSent (setUpOf s) all (o .row) (rowOut s (o .row) (absorbed s x r) (o .rowOut) .bytes) (o .rowOut) (rowOut s (o .row) (absorbed s x r) (o .rowOut) .out) (rowDue (s .l) (length gs))
   unfolding rowOut

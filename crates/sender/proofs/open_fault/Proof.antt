@@ -1,7 +1,8 @@
 -- `sender::open_fault` meets its contract.
 use mathlib.Core.Path.{sym, _∙_}
 use Rattle.answer.specs.First.{first-hit, first-past, first-end}
-use Rattle.sender.specs.Ready.{setUpTests, set-up-good}
+use Rattle.sender.specs.Call.{setUpTests}
+use Rattle.sender.specs.Ready.{set-up-good}
 use Rattle.sender.proofs.Ways.{stops, goes}
 use borrow.Author.Needs.{needs}
 use Rattle.sender.proofs.open_fault.Statement.{statement}

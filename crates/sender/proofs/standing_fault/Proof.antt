@@ -3,7 +3,8 @@ use mathlib.Core.Path.{sym, _∙_}
 use native.Mathlib.Omega.{arith}
 use lib.ListN.{length}
 use Rattle.answer.specs.First.{first-hit, first-past, first-end}
-use Rattle.sender.specs.Ready.{setUpTests, set-up-good, longest-enough}
+use Rattle.sender.specs.Call.{setUpTests}
+use Rattle.sender.specs.Ready.{set-up-good, longest-enough}
 use Rattle.sender.proofs.Ways.{stops, goes}
 use borrow.Author.Needs.{needs}
 use Rattle.sender.proofs.standing_fault.Statement.{statement}

@@ -3,8 +3,8 @@ use mathlib.Core.Path.{sym, _∙_}
 use lib.ListN.{length}
 use Rattle.answer.specs.First.{first-front, first-none}
 use Rattle.sender.specs.Sums.{lent}
-use Rattle.sender.specs.Call.{fresh}
-use Rattle.sender.specs.Ready.{setUpTests, openBy, set-up-good, roomy-of}
+use Rattle.sender.specs.Call.{fresh, setUpTests}
+use Rattle.sender.specs.Ready.{openBy, set-up-good, roomy-of}
 use Rattle.sender.proofs.Ways.{open-stops, open-done}
 use borrow.Author.Needs.{needs}
 use Rattle.sender.proofs.Sender.open.Statement.{statement}
