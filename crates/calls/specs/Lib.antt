@@ -5,5 +5,6 @@ pub mod Settle
 pub mod Accept
 pub mod Call
 pub mod Standing
+pub mod Move
 pub mod Passed
 pub mod Rest

@@ -11,7 +11,7 @@ use Rattle.window.specs.Group.{position}
 use Rattle.window.specs.Limits.{rows}
 use Rattle.window.specs.Order.{inUse, groupAt, missingAt}
 use Rattle.calls.specs.Content.{recoveryAt}
-use Rattle.calls.specs.State.{State, rebuild, fitsOver, countSpoilt, release}
+use Rattle.calls.specs.State.{State, rebuild, fitsOver, countSpoilt, release, releaseBelow}
 
 -- a record in use with exactly one packet of its group missing
 abbrev pub ready : State → ℕ → Bool
@@ -39,18 +39,9 @@ next x = nextBelow x (rows (x .window))
 abbrev pub spent : State → ℕ → Bool
 spent x r = inUse (x .window) (x .store) r && eqb (length (missingAt (x .window) (x .store) r)) 0
 
--- a spent record is released
-abbrev pub releaseSpent : ℕ → State → State
-releaseSpent r x = cond (spent x r) (release r x) x
-
--- each spent one of the first m records is released
-abbrev pub releaseBelow : ℕ → State → State
-releaseBelow zero x = x
-releaseBelow (suc r) x = releaseSpent r (releaseBelow r x)
-
 -- every spent record is released
 unfoldable pub releaseAll : State → State
-releaseAll x = releaseBelow (rows (x .window)) x
+releaseAll x = releaseBelow spent (rows (x .window)) x
 
 -- what a record gives for its missing packet fits it
 abbrev pub fitsAt : State → ℕ → Bool

@@ -1,7 +1,7 @@
 -- What a call works on, and the single changes that it makes (01, "Taking a packet in").
-use mathlib.Core.Bool.{Bool}
+use mathlib.Core.Bool.{Bool, cond}
 use mathlib.Core.List.{List}
-use Prim.Native.Nat.{ℕ, _+_, _*_, _-_}
+use Prim.Native.Nat.{ℕ, zero, suc, _+_, _*_, _-_}
 use lib.ListN.{set, replicate}
 use lib.Seq.{paste}
 use Rattle.window.specs.declared.Record.{Record}
@@ -109,3 +109,12 @@ release r x =
       rebuilt = x .rebuilt;
       spoilt = x .spoilt;
     }
+
+-- a record is released if a test holds of it
+abbrev pub releaseIf : (test : State → ℕ → Bool) → (r : ℕ) → State → State
+releaseIf test r x = cond (test x r) (release r x) x
+
+-- each of the first m records is
+abbrev pub releaseBelow : (test : State → ℕ → Bool) → (m : ℕ) → State → State
+releaseBelow test zero x = x
+releaseBelow test (suc r) x = releaseIf test r (releaseBelow test r x)

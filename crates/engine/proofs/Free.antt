@@ -1,4 +1,5 @@
--- Spent rows set free are the spent records released, of every table that the hand is apart from. Assumes nothing.
+-- Rows that a test holds of set free are the records released that a test of the table holds of, where the two tests agree: of every table that the
+-- hand is apart from. Assumes nothing.
 use mathlib.Core.Path.{_≡_, refl, sym, ap, subst, _∙_}
 use mathlib.Core.Bool.{Bool, true, false, cond, _&&_}
 use mathlib.Core.List.{List, [], _∷_}
@@ -15,20 +16,29 @@ use Rattle.window.specs.Record.{blank}
 use Rattle.window.specs.Store.{recordAt, stored}
 use Rattle.window.specs.Group.{group, missing}
 use Rattle.window.specs.Order.{used}
-use Rattle.calls.specs.State.{State, scene, recount, release}
-use Rattle.calls.specs.Settle.{spent, releaseSpent, releaseBelow, releaseAll}
+use Rattle.calls.specs.State.{State, scene, recount, release, releaseIf, releaseBelow}
+use Rattle.calls.specs.Settle.{spent, releaseAll}
 use Rattle.table.specs.Note.{saysNone, none-is}
 use Rattle.table.specs.View.{Row, nobody, slotAt, noteAt, itAt, put, slots, scatter}
 use Rattle.table.specs.Apart.{Free, Fits, get-scatter, set-scatter, apart-scatter, slots-put, same-slot, same-fits, same-length}
 use Rattle.table.specs.Fold.{below, rows, fold}
 use Rattle.table.specs.Sound.{SoundRow, Sound}
 use Rattle.group.proofs.Rows.{row-ends}
-use Rattle.engine.specs.Rows.{Desk, rowSpent, freeRow, freeSpent, freeBelow}
+use Rattle.engine.specs.Rows.{Desk, rowSpent, freeRow, freeIf, freeBelow}
 use Rattle.engine.proofs.Same.{recount-twice}
 
 -- a desk
 abbrev pub desk : Window → (parity : List ℕ) → List Row → Desk
 desk w parity hs = record { window = w; parity = parity; rows = hs }
+
+-- the first of two tests that both hold
+pub first-holds : (a b : Bool) → (a && b) ≡ true → a ≡ true
+first-holds true b e = refl
+first-holds false b e = e
+
+-- a spent row is in use
+pub spent-used : (gs : List Row) (i : ℕ) → rowSpent gs i ≡ true → used (itAt gs i) ≡ true
+spent-used gs i e = first-holds (used (itAt gs i)) (saysNone (noteAt gs i)) e
 
 -- ---- what is kept while rows are set free
 pub record Keeps (w : Window) (marks : List ℕ) (np : ℕ) (hs : List Row) (d : Desk) : Type 0 where
@@ -66,26 +76,24 @@ module _ (w : Window) (marks : List ℕ) (hs : List Row) where
           sound = sound-put (d .rows) i l (k .sound);
         }
 
-    pub keeps-spent : (d : Desk) (i : ℕ) → i < length (d .rows) → Keeps w marks np hs d → Keeps w marks np hs (freeSpent i d)
-    keeps-spent d i l k = go (rowSpent (d .rows) i) refl
-      where
-        first : (a b : Bool) → (a && b) ≡ true → a ≡ true
-        first true b e = refl
-        first false b e = e
+    -- a test that holds only of rows in use
+    module _ (test : List Row → ℕ → Bool) (of-used : (gs : List Row) (i : ℕ) → test gs i ≡ true → used (itAt gs i) ≡ true) where
+      pub keeps-if : (d : Desk) (i : ℕ) → i < length (d .rows) → Keeps w marks np hs d → Keeps w marks np hs (freeIf test i d)
+      keeps-if d i l k = go (test (d .rows) i) refl
+        where
+          go : (t : Bool) → test (d .rows) i ≡ t → Keeps w marks np hs (cond t (freeRow i d) d)
+          go true e = keeps-row d i l (of-used (d .rows) i e) k
+          go false e = k
 
-        go : (t : Bool) → rowSpent (d .rows) i ≡ t → Keeps w marks np hs (cond t (freeRow i d) d)
-        go true e = keeps-row d i l (first (used (itAt (d .rows) i)) (saysNone (noteAt (d .rows) i)) e) k
-        go false e = k
+      keeps-below : (d : Desk) (m : ℕ) → m ≤ length hs → Keeps w marks np hs d → Keeps w marks np hs (below (freeIf test) m d)
+      keeps-below d zero l k = k
+      keeps-below d (suc m) l k =
+          let b = keeps-below d m (omega arith) k in
+          keeps-if (below (freeIf test) m d) m (omega (arith, l, same-length hs (below (freeIf test) m d .rows) (b .same-slots))) b
 
-    keeps-below : (d : Desk) (m : ℕ) → m ≤ length hs → Keeps w marks np hs d → Keeps w marks np hs (below freeSpent m d)
-    keeps-below d zero l k = k
-    keeps-below d (suc m) l k =
-        let b = keeps-below d m (omega arith) k in
-        keeps-spent (below freeSpent m d) m (omega (arith, l, same-length hs (below freeSpent m d .rows) (b .same-slots))) b
-
-    pub keeps-all : (d : Desk) (m : ℕ) → m ≤ length hs → Keeps w marks np hs d → Keeps w marks np hs (freeBelow m d)
-    unfolding freeBelow
-    keeps-all d m l k = keeps-below d m l k
+      pub keeps-all : (d : Desk) (m : ℕ) → m ≤ length hs → Keeps w marks np hs d → Keeps w marks np hs (freeBelow test m d)
+      unfolding freeBelow
+      keeps-all d m l k = keeps-below d m l k
 
     -- ---- of every table
     module _ (media timestamps lengths : List ℕ) (t : List Record) (f : Fits t (w .k) hs) (b q : ℕ) where
@@ -93,32 +101,16 @@ module _ (w : Window) (marks : List ℕ) (hs : List Row) where
       abbrev shown : Desk → State
       shown d = scene (d .window) (stored media timestamps lengths marks (d .parity) (scatter (d .rows) t)) b q
 
-      spent-is : (d : Desk) → Keeps w marks np hs d → (i : ℕ) → i < length hs → spent (shown d) (slotAt hs i) ≡ rowSpent (d .rows) i
-      spent-is d k i l =
-          let n : i < length (d .rows) = omega (arith, l, same-length hs (d .rows) (k .same-slots)) in
+      -- the record of a row
+      pub row-record : (d : Desk) → Keeps w marks np hs d → (i : ℕ) → i < length hs → getD (scatter (d .rows) t) (slotAt hs i) blank ≡ itAt (d .rows) i
+      row-record d k i l =
           let fits = same-fits f (d .rows) (k .same-slots) in
-          let e : getD (scatter (d .rows) t) (slotAt hs i) blank ≡ itAt (d .rows) i = ap (λ (q : ℕ). getD (scatter (d .rows) t) q blank) (sym (same-slot hs (d .rows) (k .same-slots) i)) ∙ get-scatter (fits .apart) (fits .enough) i n in
-          rw (e, k .same) (go n (used (itAt (d .rows) i)) refl)
-        where
-          go : i < length (d .rows) → (u : Bool) → used (itAt (d .rows) i) ≡ u → (u && eqb (length (missing marks (group w (itAt (d .rows) i .stream) (itAt (d .rows) i .snbase)))) 0) ≡ (u && saysNone (noteAt (d .rows) i))
-          go n true e = sym (ap saysNone (k .sound .at i n e .noted) ∙ none-is marks (group w (itAt (d .rows) i .stream) (itAt (d .rows) i .snbase)))
-          go n false e = refl
+          ap (λ (q : ℕ). getD (scatter (d .rows) t) q blank) (sym (same-slot hs (d .rows) (k .same-slots) i)) ∙ get-scatter (fits .apart) (fits .enough) i (omega (arith, l, same-length hs (d .rows) (k .same-slots)))
 
       pub freed : (d : Desk) → Keeps w marks np hs d → (i : ℕ) → i < length hs → release (slotAt hs i) (shown d) ≡ shown (freeRow i d)
       freed d k i l =
           let n : i < length (d .rows) = omega (arith, l, same-length hs (d .rows) (k .same-slots)) in
           rw (← same-slot hs (d .rows) (k .same-slots) i, set-scatter (same-fits f (d .rows) (k .same-slots) .apart) i blank n)
-
-      row-is : (d : Desk) → Keeps w marks np hs d → (i : ℕ) → i < length hs → releaseSpent (slotAt hs i) (shown d) ≡ shown (freeSpent i d)
-      row-is d k i l = ap (λ (u : Bool). cond u (release (slotAt hs i) (shown d)) (shown d)) (spent-is d k i l) ∙ go (rowSpent (d .rows) i)
-        where
-          go : (u : Bool) → cond u (release (slotAt hs i) (shown d)) (shown d) ≡ shown (cond u (freeRow i d) d)
-          go true = freed d k i l
-          go false = refl
-
-      passed : (d : Desk) → Keeps w marks np hs d → (m : ℕ) → m ≤ length hs → rows releaseSpent hs m (shown d) ≡ shown (below freeSpent m d)
-      passed d k zero l = refl
-      passed d k (suc m) l = ap (releaseSpent (slotAt hs m)) (passed d k m (omega arith)) ∙ row-is (below freeSpent m d) (keeps-below d m (omega arith) k) m (omega arith)
 
       free-set : (u : List Record) (r q : ℕ) → Free u q → Free (set u r blank) q
       free-set [] r q e = e
@@ -127,27 +119,54 @@ module _ (w : Window) (marks : List ℕ) (hs : List Row) where
       free-set (v ∷ u) (suc r) zero e = e
       free-set (v ∷ u) (suc r) (suc q) e = free-set u r q e
 
-      still : (r : ℕ) (x : State) → Free (x .store .records) r → releaseSpent r x ≡ x
-      still r x e = rw e
+      -- a test of the rows and one of the table that agree, and that no free record meets
+      module _ (test : List Row → ℕ → Bool) (of-used : (gs : List Row) (i : ℕ) → test gs i ≡ true → used (itAt gs i) ≡ true) (tests : State → ℕ → Bool)
+          (of-taken : (r : ℕ) (x : State) → Free (x .store .records) r → tests x r ≡ false)
+          (agree : (d : Desk) → Keeps w marks np hs d → (i : ℕ) → i < length hs → tests (shown d) (slotAt hs i) ≡ test (d .rows) i) where
+        row-is : (d : Desk) → Keeps w marks np hs d → (i : ℕ) → i < length hs → releaseIf tests (slotAt hs i) (shown d) ≡ shown (freeIf test i d)
+        row-is d k i l = ap (λ (u : Bool). cond u (release (slotAt hs i) (shown d)) (shown d)) (agree d k i l) ∙ go (test (d .rows) i)
+          where
+            go : (u : Bool) → cond u (release (slotAt hs i) (shown d)) (shown d) ≡ shown (cond u (freeRow i d) d)
+            go true = freed d k i l
+            go false = refl
 
-      keeps-free : (r q : ℕ) (x : State) → Free (x .store .records) q → Free (releaseSpent r x .store .records) q
-      keeps-free r q x e = go (spent x r)
+        passed : (d : Desk) → Keeps w marks np hs d → (m : ℕ) → m ≤ length hs → rows (releaseIf tests) hs m (shown d) ≡ shown (below (freeIf test) m d)
+        passed d k zero l = refl
+        passed d k (suc m) l = ap (releaseIf tests (slotAt hs m)) (passed d k m (omega arith)) ∙ row-is (below (freeIf test) m d) (keeps-below test of-used d m (omega arith) k) m (omega arith)
+
+        still : (r : ℕ) (x : State) → Free (x .store .records) r → releaseIf tests r x ≡ x
+        still r x e = rw (of-taken r x e)
+
+        keeps-free : (r q : ℕ) (x : State) → Free (x .store .records) q → Free (releaseIf tests r x .store .records) q
+        keeps-free r q x e = go (tests x r)
+          where
+            go : (u : Bool) → Free (cond u (release r x) x .store .records) q
+            go true = free-set (x .store .records) r q e
+            go false = e
+
+        below-is : (k : ℕ) (x : State) → releaseBelow tests k x ≡ below (releaseIf tests) k x
+        below-is zero x = refl
+        below-is (suc k) x = ap (releaseIf tests k) (below-is k x)
+
+        pub free-each : (parity : List ℕ) (v : Window) → v ≡ recount w (v .present) (v .«in_use») → Keeps w marks np hs (desk v parity hs) → shown (freeBelow test (length hs) (desk v parity hs)) ≡ releaseBelow tests (v .k) (shown (desk v parity hs))
+        unfolding freeBelow
+        free-each parity v e k =
+            let d = desk v parity hs in
+            let ek : v .k ≡ w .k = ap (λ (u : Window). u .k) e in
+            sym
+            (ap (λ (n : ℕ). releaseBelow tests n (shown d)) ek
+            ∙ below-is (w .k) (shown d)
+            ∙ fold (λ (x : State). x .store .records) (releaseIf tests) still keeps-free (shown d) (apart-scatter (f .apart))
+            ∙ passed d k (length hs) (omega arith))
+
+      -- ---- spent rows
+      spent-is : (d : Desk) → Keeps w marks np hs d → (i : ℕ) → i < length hs → spent (shown d) (slotAt hs i) ≡ rowSpent (d .rows) i
+      spent-is d k i l = rw (row-record d k i l, k .same) (go (omega (arith, l, same-length hs (d .rows) (k .same-slots))) (used (itAt (d .rows) i)) refl)
         where
-          go : (u : Bool) → Free (cond u (release r x) x .store .records) q
-          go true = free-set (x .store .records) r q e
-          go false = e
+          go : i < length (d .rows) → (u : Bool) → used (itAt (d .rows) i) ≡ u → (u && eqb (length (missing marks (group w (itAt (d .rows) i .stream) (itAt (d .rows) i .snbase)))) 0) ≡ (u && saysNone (noteAt (d .rows) i))
+          go n true e = sym (ap saysNone (k .sound .at i n e .noted) ∙ none-is marks (group w (itAt (d .rows) i .stream) (itAt (d .rows) i .snbase)))
+          go n false e = refl
 
-      below-is : (k : ℕ) (x : State) → releaseBelow k x ≡ below releaseSpent k x
-      below-is zero x = refl
-      below-is (suc k) x = ap (releaseSpent k) (below-is k x)
-
-      pub free-all : (parity : List ℕ) (v : Window) → v ≡ recount w (v .present) (v .«in_use») → Keeps w marks np hs (desk v parity hs) → shown (freeBelow (length hs) (desk v parity hs)) ≡ releaseAll (shown (desk v parity hs))
-      unfolding releaseAll freeBelow
-      free-all parity v e k =
-          let d = desk v parity hs in
-          let ek : v .k ≡ w .k = ap (λ (u : Window). u .k) e in
-          sym
-          (ap (λ (n : ℕ). releaseBelow n (shown d)) ek
-          ∙ below-is (w .k) (shown d)
-          ∙ fold (λ (x : State). x .store .records) releaseSpent still keeps-free (shown d) (apart-scatter (f .apart))
-          ∙ passed d k (length hs) (omega arith))
+      pub free-all : (parity : List ℕ) (v : Window) → v ≡ recount w (v .present) (v .«in_use») → Keeps w marks np hs (desk v parity hs) → shown (freeBelow rowSpent (length hs) (desk v parity hs)) ≡ releaseAll (shown (desk v parity hs))
+      unfolding releaseAll
+      free-all parity v e k = free-each rowSpent spent-used spent (λ r x z. rw z) spent-is parity v e k

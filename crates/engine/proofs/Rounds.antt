@@ -28,12 +28,12 @@ use Rattle.table.specs.Sound.{SoundRow, Sound}
 use Rattle.group.specs.Held.{Below}
 use Rattle.group.specs.Tried.{Tried}
 use Rattle.group.proofs.Rows.{kept-below}
-use Rattle.engine.specs.Rows.{AgainAll, nextRow, found, Desk, freeRow, freeBelow}
+use Rattle.engine.specs.Rows.{AgainAll, nextRow, found, Desk, rowSpent, freeRow, freeBelow}
 use Rattle.engine.specs.Round.{Parts, over, Serves, Rounded}
 use Rattle.engine.proofs.Same.{set-up-same, sound-same, recount-twice}
 use Rattle.engine.proofs.Again.{again-sound}
 use Rattle.engine.proofs.Next.{atSlot, next-rows, found-ready, found-at, found-none}
-use Rattle.engine.proofs.Free.{desk, Keeps, keeps-row, keeps-all, freed, free-all}
+use Rattle.engine.proofs.Free.{desk, Keeps, keeps-row, spent-used, keeps-all, freed, free-all}
 
 -- what a record at a slot carries, its payload being n bytes long
 abbrev pub carried : Window → (parity : List ℕ) → Record → (s n : ℕ) → Recovery
@@ -193,7 +193,7 @@ module _ (w : Window) (based : w .base < 2 ^ width) (x : Parts) (serves : Serves
         keeps-start : Keeps more marks (length (x .parity)) hs (desk more (x .parity) hs)
         keeps-start = record { same = refl; present = refl; same-slots = refl; long = refl; sound = sound-now }
 
-        module _ (window : Window) (parity : List ℕ) (hs′ : List Row) (e : desk window parity hs′ ≡ freeBelow m (desk more (x .parity) hs)) (lm : length media ≡ length (x .media)) (lt : length timestamps ≡ length (x .timestamps)) (ll : length lengths ≡ length (x .lengths)) where
+        module _ (window : Window) (parity : List ℕ) (hs′ : List Row) (e : desk window parity hs′ ≡ freeBelow rowSpent m (desk more (x .parity) hs)) (lm : length media ≡ length (x .media)) (lt : length timestamps ≡ length (x .timestamps)) (ll : length lengths ≡ length (x .lengths)) where
           abbrev y : Parts
           y = record { media = media; timestamps = timestamps; lengths = lengths; marks = marks; parity = parity; rows = hs′ }
 
@@ -201,7 +201,7 @@ module _ (w : Window) (based : w .base < 2 ^ width) (x : Parts) (serves : Serves
           length-now = alike-length (again .alike) ∙ long
 
           keeps : Keeps more marks (length (x .parity)) hs (desk window parity hs′)
-          keeps = subst (λ (d : Desk). Keeps more marks (length (x .parity)) hs d) (sym e) (keeps-all more marks hs (length (x .parity)) room-now (desk more (x .parity) hs) m (omega (arith, length-now)) keeps-start)
+          keeps = subst (λ (d : Desk). Keeps more marks (length (x .parity)) hs d) (sym e) (keeps-all more marks hs (length (x .parity)) room-now rowSpent spent-used (desk more (x .parity) hs) m (omega (arith, length-now)) keeps-start)
 
           more-kept : more ≡ recount w (more .present) (more .«in_use»)
           more-kept = rw ew
@@ -212,7 +212,7 @@ module _ (w : Window) (based : w .base < 2 ^ width) (x : Parts) (serves : Serves
           all : (t : List Record) → Fits t (w .k) (x .rows) → (b q : ℕ) → scene window (over y t) (b + 1) (q + 0) ≡ round (scene w (over x t) b q)
           all t f b q =
               let fits : Fits t (more .k) hs = rw ew (alike-fits (again .alike) f) in
-              ap (λ (d : Desk). scene (d .window) (stored media timestamps lengths marks (d .parity) (scatter (d .rows) t)) (b + 1) (q + 0)) (e ∙ ap (λ (n : ℕ). freeBelow n (desk more (x .parity) hs)) (sym length-now))
+              ap (λ (d : Desk). scene (d .window) (stored media timestamps lengths marks (d .parity) (scatter (d .rows) t)) (b + 1) (q + 0)) (e ∙ ap (λ (n : ℕ). freeBelow rowSpent n (desk more (x .parity) hs)) (sym length-now))
               ∙ free-all more marks hs (length (x .parity)) room-now media timestamps lengths t fits (b + 1) (q + 0) (x .parity) more refl keeps-start
               ∙ ap releaseAll (ap (scene more (stored media timestamps lengths marks (x .parity) (scatter hs t)) (b + 1)) (add-zero q) ∙ rebuilt t f b q)
               ∙ round-some (scene w (over x t) b q) s (next-here t f b q) (fit-is t f b q ∙ good)

@@ -90,10 +90,10 @@ freeRow i d =
       rows = put (d .rows) i blank;
     }
 
--- row i is set free if it is spent
-abbrev pub freeSpent : ℕ → Desk → Desk
-freeSpent i d = cond (rowSpent (d .rows) i) (freeRow i d) d
+-- row i is set free if a test holds of it
+abbrev pub freeIf : (test : List Row → ℕ → Bool) → (i : ℕ) → Desk → Desk
+freeIf test i d = cond (test (d .rows) i) (freeRow i d) d
 
--- each of the first m rows is set free if it is spent
-unfoldable pub freeBelow : ℕ → Desk → Desk
-freeBelow m d = below freeSpent m d
+-- each of the first m rows is
+unfoldable pub freeBelow : (test : List Row → ℕ → Bool) → (m : ℕ) → Desk → Desk
+freeBelow test m d = below (freeIf test) m d

@@ -17,7 +17,7 @@ ghost use Rattle.window.specs.Plain.{Inside};
 ghost use Rattle.calls.specs.State.{recount};
 ghost use Rattle.table.specs.View.{hand, slotAt, noteAt, itAt};
 ghost use Rattle.table.specs.Note.{oneAt};
-ghost use Rattle.engine.specs.Rows.{InsideRows, AgainAt, AgainAll, rowReady, nextRow, found, pick, freeRow, freeSpent, freeBelow};
+ghost use Rattle.engine.specs.Rows.{InsideRows, AgainAt, AgainAll, rowReady, nextRow, found, pick, rowSpent, freeRow, freeIf, freeBelow};
 ghost use Rattle.engine.specs.Round.{Serves, Rounded, Settled};
 
 // ---- one packet more: the rows that waited for it
@@ -162,7 +162,7 @@ fn one_less(x: usize) -> usize
 }
 
 // The record of row i and its payload are set to zero.
-fn free_row(w: Window, i: usize, parity: &mut [u8], rows: &mut [u32]) -> Window
+pub fn free_row(w: Window, i: usize, parity: &mut [u8], rows: &mut [u32]) -> Window
     requires { ⌜ (i < length (hand (now rows))) × (slotAt (hand (now rows)) i < w .k) × (w .k * w .p ≤ length (now parity)) ⌝ }
     ensures { λ v. ⌜ record { window = v; parity = now (parity .exit); rows = hand (now (rows .exit)) } ≡ freeRow i (record { window = w; parity = now (parity .entry); rows = hand (now (rows .entry)) }) ⌝ }
 {
@@ -175,7 +175,7 @@ fn free_row(w: Window, i: usize, parity: &mut [u8], rows: &mut [u32]) -> Window
 // Row i is released if it is in use and none of its group is missing.
 fn release_row(w: Window, i: usize, parity: &mut [u8], rows: &mut [u32]) -> Window
     requires { ⌜ (i < length (hand (now rows))) × (used (itAt (hand (now rows)) i) ≡ true → slotAt (hand (now rows)) i < w .k) × (w .k * w .p ≤ length (now parity)) ⌝ }
-    ensures { λ v. ⌜ record { window = v; parity = now (parity .exit); rows = hand (now (rows .exit)) } ≡ freeSpent i (record { window = w; parity = now (parity .entry); rows = hand (now (rows .entry)) }) ⌝ }
+    ensures { λ v. ⌜ record { window = v; parity = now (parity .exit); rows = hand (now (rows .exit)) } ≡ freeIf rowSpent i (record { window = w; parity = now (parity .entry); rows = hand (now (rows .entry)) }) ⌝ }
 {
     let v = table::record_at(rows, i);
     if v.in_use != 1 {
@@ -190,7 +190,7 @@ fn release_row(w: Window, i: usize, parity: &mut [u8], rows: &mut [u32]) -> Wind
 // Every spent row is released. The hand has m rows.
 fn release_all(w: Window, parity: &mut [u8], rows: &mut [u32], m: usize) -> Window
     requires { ⌜ (length (hand (now rows)) ≡ m) × ((i : ℕ) → i < m → used (itAt (hand (now rows)) i) ≡ true → slotAt (hand (now rows)) i < w .k) × (w .k * w .p ≤ length (now parity)) ⌝ }
-    ensures { λ v. ⌜ record { window = v; parity = now (parity .exit); rows = hand (now (rows .exit)) } ≡ freeBelow m (record { window = w; parity = now (parity .entry); rows = hand (now (rows .entry)) }) ⌝ }
+    ensures { λ v. ⌜ record { window = v; parity = now (parity .exit); rows = hand (now (rows .exit)) } ≡ freeBelow rowSpent m (record { window = w; parity = now (parity .entry); rows = hand (now (rows .entry)) }) ⌝ }
 {
     let mut v = w;
     let mut i = 0;

@@ -17,8 +17,8 @@ use Rattle.window.specs.Limits.{rows}
 use Rattle.window.specs.Store.{Store}
 use Rattle.window.specs.Order.{inUse, groupAt, missingAt}
 use Rattle.calls.specs.Content.{Recovery, recoveryAt}
-use Rattle.calls.specs.State.{State, scene, recount, rebuild, countSpoilt, release}
-use Rattle.calls.specs.Settle.{ready, rank, better, nextBelow, next, releaseSpent, releaseBelow, releaseAll, fitsAt, rebuildBy, roundBy, round}
+use Rattle.calls.specs.State.{State, scene, recount, rebuild, countSpoilt, release, releaseIf, releaseBelow}
+use Rattle.calls.specs.Settle.{ready, rank, better, nextBelow, next, spent as idle, releaseAll, fitsAt, rebuildBy, roundBy, round}
 use Rattle.peel.specs.Group.{count-none}
 use Rattle.peel.specs.Peel.{gone, miss, Spoilt, Steps, stop, go-on}
 use Rattle.peel.specs.Rest.{Still, Engine, steps-then}
@@ -99,7 +99,7 @@ pub record Freed (w : Window) (a u : ℕ) (s : Store) (c q m : ℕ) (y : State) 
 
 module _ {w : Window} {a u : ℕ} {s : Store} (G : Good w a u s) (c q : ℕ) where
   -- one record more
-  free-one : (m : ℕ) → m < rows w → (y : State) → Freed w a u s c q m y → Freed w a u s c q (suc m) (releaseSpent m y)
+  free-one : (m : ℕ) → m < rows w → (y : State) → Freed w a u s c q m y → Freed w a u s c q (suc m) (releaseIf idle m y)
   free-one m hm y f = rw (f .is) (go (inUse w t m) (eqb (length (missingAt w t m)) 0) refl refl)
     where
       t : Store
@@ -141,9 +141,9 @@ module _ {w : Window} {a u : ℕ} {s : Store} (G : Good w a u s) (c q : ℕ) whe
           old r l e n = let z = freed-same (f .good) m hm p r n in rw z (f .least r (omega arith) (rw z at e))
 
   -- the first m records
-  pub free-below : (m : ℕ) → m ≤ rows w → Freed w a u s c q m (releaseBelow m (at w a u s c q))
+  pub free-below : (m : ℕ) → m ≤ rows w → Freed w a u s c q m (releaseBelow idle m (at w a u s c q))
   free-below zero h = record { used = u; store = s; is = refl; good = G; steps = stop; spent = inl (refl, refl); least = λ r l e. absurd (omega arith) }
-  free-below (suc m) h = free-one m h (releaseBelow m (at w a u s c q)) (free-below m (omega arith))
+  free-below (suc m) h = free-one m h (releaseBelow idle m (at w a u s c q)) (free-below m (omega arith))
 
 -- a record in use with none missing is among those released
 spends : {w : Window} {a u : ℕ} {s : Store} {c q m : ℕ} {y : State} (f : Freed w a u s c q m y) (r : ℕ) → r < m → inUse w s r ≡ true
@@ -238,7 +238,7 @@ module _ {w : Window} {a u : ℕ} {s : Store} (G : Good w a u s) (r : ℕ) (hr :
       t : Store
       t = rebuiltIn w s (groupAt w s r) (v .content) i
 
-      f : Freed w (a + 1) u t (c + 1) q (rows w) (releaseBelow (rows w) (at w (a + 1) u t (c + 1) q))
+      f : Freed w (a + 1) u t (c + 1) q (rows w) (releaseBelow idle (rows w) (at w (a + 1) u t (c + 1) q))
       f = free-below (rebuild-good k v i solves G big ok) (c + 1) q (rows w) (omega arith)
 
       empty : length (missingAt w t r) ≡ 0

@@ -1,4 +1,4 @@
--- `engine::release_row` meets its contract: each return is a way through `freeSpent`. Assumes nothing.
+-- `engine::release_row` meets its contract: each return is a way through `freeIf`. Assumes nothing.
 use mathlib.Core.Path.{_≡_, sym, ap, _∙_}
 use borrow.Author.Tests.{eq-eqb, ne-eqb}
 use Rattle.window.specs.declared.Record.{Record}
