@@ -1,0 +1,16 @@
+-- `moving::one` meets its contract. Assumes nothing.
+use mathlib.Core.Path.{_≡_}
+use borrow.Author.Tests.{eq-eqb, ne-eqb}
+use native.Mathlib.Omega.{arith}
+use borrow.Author.Needs.{needs}
+use Rattle.moving.proofs.one.Statement.{statement}
+use Rattle.moving.proofs.one.Tie as tie
+
+returns : tie.Need-returns
+returns c = rw (eq-eqb (c .before .args .size) 0 (c .if1 .taken))
+
+returns-2 : tie.Need-returns-2
+returns-2 c = rw (ne-eqb (c .before .args .size) 0 (c .if1 .left))
+
+pub one-spec : {M : Type 1} → statement M
+one-spec = tie.close (tie.spec returns returns-2)
