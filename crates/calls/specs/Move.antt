@@ -20,7 +20,7 @@ use Rattle.window.specs.Order.{inUse, groupAt, disorder}
 use Rattle.calls.specs.Content.{contentAt}
 use Rattle.calls.specs.Datagram.{mediaPacket}
 use Rattle.calls.specs.State.{State, releaseBelow}
-use Rattle.calls.specs.Call.{over, begun}
+use Rattle.calls.specs.Call.{Outcome, over, begun}
 
 -- what a move gives back, and leaves in the lent store and in the two outputs: datagrams, and their lengths
 pub record Moved : Type 0 where
@@ -29,6 +29,10 @@ pub record Moved : Type 0 where
   pub store : Store
   pub out : List ℕ
   pub sizes : List ℕ
+
+-- what it gives back and leaves in the store alone, as an offer's outcome
+abbrev pub outcomeOf : Moved → Outcome
+outcomeOf m = record { answer = m .answer; window = m .window; store = m .store }
 
 -- ---- refusals
 

@@ -11,7 +11,9 @@ use Rattle.window.specs.declared.Record.{Record}
 use Rattle.window.specs.declared.Window.{Window}
 use Rattle.window.specs.Limits.{mostRecords}
 use Rattle.window.specs.Store.{Store, stored}
+use Rattle.window.specs.Record.{blank}
 use Rattle.calls.specs.Call.{Outcome, Written}
+use Rattle.calls.specs.Move.{Moved, outcomeOf, moved}
 use Rattle.table.specs.View.{Row, rowWords, hand, slotAt, slots, scatter}
 use Rattle.table.specs.Apart.{Within, same-slot, same-length}
 use Rattle.table.specs.Hold.{gapFrom, holdIn, hold-within}
@@ -19,8 +21,10 @@ use Rattle.order.specs.Stands.{Taken}
 use Rattle.engine.specs.Round.{Parts, over}
 use Rattle.offer.specs.declared.Offered.{Offered}
 use Rattle.offer.specs.Offer.{left, outcome, Offer}
+use Rattle.moving.specs.declared.Moved as moving
+use Rattle.moving.specs.Move.{Advance}
 use Rattle.receiver.specs.declared.Step.{Step}
-use Rattle.receiver.specs.Step.{Laid, tableOf, Stepped, Wrote}
+use Rattle.receiver.specs.Step.{Laid, tableOf, Stepped, Wrote, Advanced}
 use Rattle.receiver.proofs.Part.{more-rows, part-is, part-long, back-is, back-more}
 
 -- a step
@@ -41,6 +45,9 @@ module _ (k len m : ℕ) (words : List ℕ) (fits : Bool) (would : (m ≤ mostRe
 
   pub unread : (call : Store → List ℕ → Written) (media timestamps lengths marks parity out : List ℕ) (r : Step) → Wrote call k len m media timestamps lengths marks parity words out out r
   unread call media timestamps lengths marks parity out r = record { is = λ t l. absurd (no-room t l) }
+
+  pub unmoved : (call : Store → Moved) (media timestamps lengths marks parity out sizes : List ℕ) (r : Step) → Advanced call k len m media timestamps lengths marks parity words media timestamps lengths marks parity words out sizes r
+  unmoved call media timestamps lengths marks parity out sizes r = record { stepped = unlaid (λ s. outcomeOf (call s)) media timestamps lengths marks parity r; out = λ t l. absurd (no-room t l); sizes = λ t l. absurd (no-room t l) }
 
 -- ---- m rows of some words were lent
 module _ (k len m : ℕ) (words : List ℕ) (room : (m + 1) * rowWords ≤ length words) where
@@ -101,3 +108,30 @@ module _ (k len m : ℕ) (words : List ℕ) (room : (m + 1) * rowWords ≤ lengt
         → Stepped call k len m media timestamps lengths marks parity words media′ timestamps′ lengths′ marks′ parity′ words′ (stepOf (r .answer) (r .window) n true)
     held-step e n words′ h few =
         stepped n words′ (h ∙ ap (holdIn 0 (r .it)) (back-is words m room us lu) ∙ ap (λ (b : Bool). cond b (holdIn 0 (r .it) (hand us)) (hand us)) (sym e)) few true (λ c. absurd (let q : _≡_ {A = ℕ} 0 1 = cc in omega arith))
+
+  -- ---- a move worked on them, and they are put back
+  pub move-step : (w : Window) (by : ℕ) (out sizes : List ℕ) → w .k ≡ k → (media timestamps lengths marks parity : List ℕ) (r : moving.Moved) (media′ timestamps′ lengths′ marks′ parity′ us out′ sizes′ : List ℕ) → length us ≡ m * rowWords
+      → Advance w by len (record { media = media; timestamps = timestamps; lengths = lengths; marks = marks; parity = parity; rows = hand (take (m * rowWords) words) }) out sizes r
+      (record { media = media′; timestamps = timestamps′; lengths = lengths′; marks = marks′; parity = parity′; rows = hand us }) out′ sizes′
+      → Advanced (λ s. moved w by s out sizes) k len m media timestamps lengths marks parity words media′ timestamps′ lengths′ marks′ parity′ (us ++ drop (m * rowWords) words) out′ sizes′ (stepOf (r .answer) (r .window) m (r .changed))
+  move-step w by out sizes ek media timestamps lengths marks parity r media′ timestamps′ lengths′ marks′ parity′ us out′ sizes′ lu a = record {
+    stepped = plain-step (λ s. outcomeOf (moved w by s out sizes)) media timestamps lengths marks parity (record { answer = r .answer; window = r .window; changed = r .changed; held = false; it = blank }) media′ timestamps′ lengths′ marks′ parity′ us lu
+        (record {
+          same-slots = a .same-slots;
+          is = λ t e q. ap outcomeOf (says t e q);
+          still = a .still;
+          low = λ e. absurd (let q : _≡_ {A = ℕ} 0 1 = cc in omega arith);
+        }) refl;
+    out = λ t l. ap (λ (x : Moved). x .out) (laid t l);
+    sizes = λ t l. ap (λ (x : Moved). x .sizes) (laid t l);
+  }
+    where
+      y : List Record → Store
+      y t = stored media′ timestamps′ lengths′ marks′ parity′ (scatter (hand us) t)
+
+      says : (t : List Record) → length t ≡ len → Taken t k (hand (take (m * rowWords) words))
+          → record { answer = r .answer; window = r .window; store = y t; out = out′; sizes = sizes′ } ≡ moved w by (stored media timestamps lengths marks parity (scatter (hand (take (m * rowWords) words)) t)) out sizes
+      says t e q = a .is t e (rw ek q)
+
+      laid : (t : List Record) → Laid k len m words t → record { answer = r .answer; window = r .window; store = y t; out = out′; sizes = sizes′ } ≡ moved w by (stored media timestamps lengths marks parity (tableOf m words t)) out sizes
+      laid t l = says t (l .sized) (taken-part t l) ∙ ap (λ (u : List Record). moved w by (stored media timestamps lengths marks parity u) out sizes) (table-part t)

@@ -8,6 +8,7 @@ use Rattle.window.specs.declared.Record.{Record}
 use Rattle.window.specs.Limits.{mostRecords}
 use Rattle.window.specs.Store.{Store, stored}
 use Rattle.calls.specs.Call.{Outcome, Written}
+use Rattle.calls.specs.Move.{Moved, outcomeOf}
 use Rattle.table.specs.View.{rowWords, hand, scatter}
 use Rattle.table.specs.Apart.{Within}
 use Rattle.order.specs.Stands.{Taken}
@@ -35,3 +36,9 @@ pub record Stepped (call : Store → Outcome) (k len m : ℕ) (media timestamps 
 -- reading out or writing parity: the answer and the output, and the window value as it was
 pub record Wrote (call : Store → List ℕ → Written) (k len m : ℕ) (media timestamps lengths marks parity words out out′ : List ℕ) (r : Step) : Type 0 where
   pub is : (t : List Record) → Laid k len m words t → record { answer = r .answer; window = r .receiver .window; out = out′ } ≡ call (stored media timestamps lengths marks parity (tableOf m words t)) out
+
+-- a move: what an offer says, and what the two outputs have then
+pub record Advanced (call : Store → Moved) (k len m : ℕ) (media timestamps lengths marks parity words media′ timestamps′ lengths′ marks′ parity′ words′ out′ sizes′ : List ℕ) (r : Step) : Type 0 where
+  pub stepped : Stepped (λ s. outcomeOf (call s)) k len m media timestamps lengths marks parity words media′ timestamps′ lengths′ marks′ parity′ words′ r
+  pub out : (t : List Record) → Laid k len m words t → out′ ≡ call (stored media timestamps lengths marks parity (tableOf m words t)) .out
+  pub sizes : (t : List Record) → Laid k len m words t → sizes′ ≡ call (stored media timestamps lengths marks parity (tableOf m words t)) .sizes

@@ -16,7 +16,8 @@ ghost use Rattle.window.specs.Limits.{mostRecords};
 ghost use Rattle.window.specs.Store.{stored};
 ghost use Rattle.table.specs.View.{rowWords};
 ghost use Rattle.calls.specs.Call.{asked, wiped, opened, offeredMedia, offeredParity, readOut, wroteParity};
-ghost use Rattle.receiver.specs.Step.{Stepped, Wrote};
+ghost use Rattle.calls.specs.Move.{moved};
+ghost use Rattle.receiver.specs.Step.{Stepped, Wrote, Advanced};
 
 // A window value.
 pub struct Receiver {
@@ -410,5 +411,48 @@ impl Receiver {
             len,
             out,
         )
+    }
+
+    // The base advances by a number of positions: the packets that leave are written to `out`, a slot of 12 + P bytes each, and their
+    // lengths to `sizes`; the count is of packets written.
+    pub fn advance(
+        self,
+        by: usize,
+        media: &mut [u8],
+        timestamps: &mut [u32],
+        lengths: &mut [u16],
+        marks: &mut [u8],
+        parity: &mut [u8],
+        words: &mut [u32],
+        m: usize,
+        len: usize,
+        out: &mut [u8],
+        sizes: &mut [u16],
+    ) -> Step
+        ensures { λ r. ⌜ Advanced (λ s. moved (self .window) by s (now (out .entry)) (now (sizes .entry))) (self .window .k) len m (now (media .entry)) (now (timestamps .entry)) (now (lengths .entry)) (now (marks .entry)) (now (parity .entry)) (now (words .entry))
+            (now (media .exit)) (now (timestamps .exit)) (now (lengths .exit)) (now (marks .exit)) (now (parity .exit)) (now (words .exit)) (now (out .exit)) (now (sizes .exit)) r ⌝ }
+    {
+        let w = self.window;
+        if !has_room(words.len(), m) {
+            return handed(Answer::Refused(4), w, m, false);
+        }
+        let e = m * table::ROW;
+        let r = moving::advance(
+            w,
+            by,
+            media,
+            timestamps,
+            lengths,
+            marks,
+            parity,
+            &mut words[..e],
+            m,
+            len,
+            out,
+            sizes,
+        );
+        let answer = r.answer;
+        let next = r.window;
+        handed(answer, next, m, r.changed)
     }
 }
