@@ -4,7 +4,7 @@
 --     reaches, few-made, all-made, judged  `reach`, `few_words`, `all_words` and `enough`
 --     passes, lends            the words are lent to `gather` and come back, and a table that is a `&κ [Record]` is passed to it; or one that is a `&κ mut [Record]` is lent, and comes back
 --     scatters, wipes          the table is passed on for good to `scatter_back`, to which the words are lent as `&`, or to `wipe`
---     ends-as                  what is said of the table that is written
+--     ends-as, ends-with       what is said of the table that is written, and of two outputs beside it
 -- Assumes `Given`, and that what is called meets its contract.
 use mathlib.Core.Path.{_≡_, refl, sym, ap, subst, _∙_}
 use mathlib.Core.Bool.{Bool, true, false, cond}
@@ -62,7 +62,8 @@ use Rattle.table.proofs.scatter_back.Symbol.{name as #scatter-back}
 use Rattle.table.proofs.wipe as wipe
 use Rattle.table.proofs.wipe.Symbol.{name as #wipe}
 use Rattle.face.specs.declared.Reply.{Reply}
-use Rattle.face.specs.Reply.{Replied}
+use Rattle.calls.specs.Move.{Moved, outcomeOf}
+use Rattle.face.specs.Reply.{Replied, replied, carried}
 use Rattle.window.specs.Limits.{mostRecords}
 use Rattle.face.specs.Done.{reached, fewRecords, Lent}
 use Rattle.face.proofs.reach as reach
@@ -145,6 +146,12 @@ room-few m ws e l = omega (arith, e, leb→le m fewRecords l)
 
 pub ends-as : (done : Replied) (reply : Reply) (media timestamps lengths marks parity : List ℕ) (t′ t : List Record) → t ≡ t′ → record { reply = reply; store = stored media timestamps lengths marks parity t′ } ≡ done → record { reply = reply; store = stored media timestamps lengths marks parity t } ≡ done
 ends-as done reply media timestamps lengths marks parity t′ t e h = rw e h
+
+pub ends-with : (made : Moved) (reply : Reply) (media timestamps lengths marks parity : List ℕ) (t′ t : List Record) → t ≡ t′ → record { reply = reply; store = stored media timestamps lengths marks parity t′ } ≡ replied (outcomeOf made) → (out sizes : List ℕ) → out ≡ made .out → sizes ≡ made .sizes
+    → record { reply = reply; store = stored media timestamps lengths marks parity t; out = out; sizes = sizes } ≡ carried made
+ends-with made reply media timestamps lengths marks parity t′ t e h out sizes eo es =
+    let q = ends-as (replied (outcomeOf made)) reply media timestamps lengths marks parity t′ t e h in
+    λ i. record { reply = q i .reply; store = q i .store; out = eo i; sizes = es i }
 
 module _ {M : Type 1} (𝓤 : URA M) (H : Heap 𝓤) (A : Atoms 𝓤) (at-mem : Memory → SProp 𝓤) (run : Routine → Fun 𝓤) where
   abbrev pub Reach : Contract 𝓤

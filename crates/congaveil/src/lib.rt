@@ -17,7 +17,8 @@ ghost use mathlib.Core.Path.{_≡_};
 ghost use Rattle.window.specs.Store.{stored};
 ghost use Rattle.rtp.specs.Fec.{column, row};
 ghost use Rattle.calls.specs.Call.{asked, opened, offeredMedia, offeredParity, readOut, wroteParity};
-ghost use Rattle.face.specs.Reply.{replied, filled};
+ghost use Rattle.calls.specs.Move.{moved};
+ghost use Rattle.face.specs.Reply.{replied, filled, carried};
 ghost use Rattle.capture.specs.Calls.{readOn, headerRead, entryRead, wrote};
 ghost use Rattle.sender.specs.Sums.{lent};
 ghost use Rattle.sender.specs.Call as sending;
@@ -187,6 +188,45 @@ pub extern "C" fn cgv_row(
         records.len(),
     );
     table::scatter_back(records, hand, done.rows);
+    done.reply
+}
+
+// Moves the window on by a number of positions: the packets that leave are written to `out`, a slot of 12 + P bytes each, and their
+// lengths to `sizes`; the count is of packets written.
+#[no_mangle]
+pub extern "C" fn cgv_move(
+    w: Window,
+    by: usize,
+    media: &mut [u8],
+    timestamps: &mut [u32],
+    lengths: &mut [u16],
+    marks: &mut [u8],
+    parity: &mut [u8],
+    records: &mut [Record],
+    out: &mut [u8],
+    sizes: &mut [u16],
+) -> Reply
+    ensures { λ r. ⌜ record { reply = r; store = stored (now (media .exit)) (now (timestamps .exit)) (now (lengths .exit)) (now (marks .exit)) (now (parity .exit)) (now (records .exit)); out = now (out .exit); sizes = now (sizes .exit) }
+        ≡ carried (moved w by (stored (now (media .entry)) (now (timestamps .entry)) (now (lengths .entry)) (now (marks .entry)) (now (parity .entry)) (now (records .entry))) (now (out .entry)) (now (sizes .entry))) ⌝ }
+{
+    let k = face::reach(records.len(), w.k);
+    let mut many = face::all_words();
+    let m = table::gather(records, k, &mut many, window::MOST_RECORDS);
+    let done = face::advance(
+        w,
+        by,
+        media,
+        timestamps,
+        lengths,
+        marks,
+        parity,
+        &mut many,
+        m,
+        records.len(),
+        out,
+        sizes,
+    );
+    table::scatter_back(records, &many, done.rows);
     done.reply
 }
 

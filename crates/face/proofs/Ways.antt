@@ -12,16 +12,17 @@ use Rattle.window.specs.declared.Record.{Record}
 use Rattle.window.specs.Limits.{mostRecords}
 use Rattle.window.specs.Store.{Store, stored}
 use Rattle.calls.specs.Call.{Outcome, Written}
+use Rattle.calls.specs.Move.{Moved, outcomeOf}
 use Rattle.table.specs.View.{rowWords, Row, hand, scatter}
 use Rattle.table.specs.Apart.{Within}
 use Rattle.table.specs.Gather.{gathered, Gathered, gathered-apart, gathered-scatter, gathered-within, gathered-length}
 use Rattle.order.specs.Stands.{Taken}
 use Rattle.receiver.specs.declared.Step.{Step}
-use Rattle.receiver.specs.Step.{Laid, tableOf, Stepped, Wrote}
+use Rattle.receiver.specs.Step.{Laid, tableOf, Stepped, Wrote, Advanced}
 use Rattle.face.specs.declared.Reply.{Reply}
 use Rattle.face.specs.declared.Finished.{Finished}
 use Rattle.face.specs.Reply.{Replied, Filled, numbered, replied, filled}
-use Rattle.face.specs.Done.{reached, Lent, Done, Given}
+use Rattle.face.specs.Done.{reached, Lent, Done, Given, Carries}
 
 -- no rows leave the table as it is
 no-rows : (hs : List Row) (t : List Record) → scatter (take 0 hs) t ≡ t
@@ -89,4 +90,15 @@ given call len k m media timestamps lengths marks parity words out out′ sized 
   is = λ t l.
       (λ i. record { reply = er i; out = out′ })
       ∙ ap filled (s .is t (laid len k m words sized t l) ∙ ap (λ (u : List Record). call (stored media timestamps lengths marks parity u) out) (table-is len k m words sized t l));
+}
+
+-- a move
+pub carries : (call : Store → Moved) (len k m : ℕ) (media timestamps lengths marks parity words : List ℕ) → (m + 1) * rowWords ≤ length words → (media′ timestamps′ lengths′ marks′ parity′ words′ out′ sizes′ : List ℕ) (r : Step)
+    → Advanced call k len m media timestamps lengths marks parity words media′ timestamps′ lengths′ marks′ parity′ words′ out′ sizes′ r → length words′ ≡ length words
+    → (f : Finished) → f .reply ≡ numbered (r .answer) (r .receiver .window) → f .rows ≡ cond (r .changed) (r .rows) 0
+    → Carries call len k m media timestamps lengths marks parity words media′ timestamps′ lengths′ marks′ parity′ words′ out′ sizes′ f
+carries call len k m media timestamps lengths marks parity words sized media′ timestamps′ lengths′ marks′ parity′ words′ out′ sizes′ r s long f er en = record {
+  done = done (λ x. outcomeOf (call x)) len k m media timestamps lengths marks parity words sized media′ timestamps′ lengths′ marks′ parity′ words′ r (s .stepped) long f er en;
+  out = λ t l. s .out t (laid len k m words sized t l) ∙ ap (λ (u : List Record). call (stored media timestamps lengths marks parity u) .out) (table-is len k m words sized t l);
+  sizes = λ t l. s .sizes t (laid len k m words sized t l) ∙ ap (λ (u : List Record). call (stored media timestamps lengths marks parity u) .sizes) (table-is len k m words sized t l);
 }

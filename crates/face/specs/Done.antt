@@ -6,12 +6,13 @@ use lib.ListN.{length, take}
 use Rattle.window.specs.declared.Record.{Record}
 use Rattle.window.specs.Limits.{mostRecords}
 use Rattle.window.specs.Store.{Store, stored}
+use Rattle.calls.specs.Move.{Moved, outcomeOf}
 use Rattle.table.specs.View.{rowWords, hand, scatter}
 use Rattle.table.specs.Apart.{Within}
 use Rattle.table.specs.Gather.{gathered, Gathered}
 use Rattle.face.specs.declared.Reply.{Reply}
 use Rattle.face.specs.declared.Finished.{Finished}
-use Rattle.face.specs.Reply.{Replied, Filled}
+use Rattle.face.specs.Reply.{Replied, Filled, replied}
 
 -- how many records are looked through: K, and no more than there are, nor than a window may have
 abbrev pub reached : (len k : ℕ) → ℕ
@@ -44,3 +45,9 @@ pub record Done (call : Store → Replied) (len k m : ℕ) (media timestamps len
 -- reading out or writing parity
 pub record Given (call : Store → List ℕ → Filled) (len k m : ℕ) (media timestamps lengths marks parity words out out′ : List ℕ) (r : Reply) : Type 0 where
   pub is : (t : List Record) → Lent len k m words t → record { reply = r; out = out′ } ≡ call (stored media timestamps lengths marks parity t) out
+
+-- a move: what an offer says, and what the two outputs have then
+pub record Carries (call : Store → Moved) (len k m : ℕ) (media timestamps lengths marks parity words media′ timestamps′ lengths′ marks′ parity′ words′ out′ sizes′ : List ℕ) (r : Finished) : Type 0 where
+  pub done : Done (λ s. replied (outcomeOf (call s))) len k m media timestamps lengths marks parity words media′ timestamps′ lengths′ marks′ parity′ words′ r
+  pub out : (t : List Record) → Lent len k m words t → out′ ≡ call (stored media timestamps lengths marks parity t) .out
+  pub sizes : (t : List Record) → Lent len k m words t → sizes′ ≡ call (stored media timestamps lengths marks parity t) .sizes

@@ -6,6 +6,7 @@ use Rattle.answer.specs.Number.{numberOf, countOf, spoiltOf}
 use Rattle.window.specs.declared.Window.{Window}
 use Rattle.window.specs.Store.{Store}
 use Rattle.calls.specs.Call.{Outcome, Written}
+use Rattle.calls.specs.Move.{Moved}
 use Rattle.face.specs.declared.Reply.{Reply}
 
 -- an answer as document 01's number and counts, with the window value
@@ -29,3 +30,14 @@ replied o = record { reply = numbered (o .answer) (o .window); store = o .store 
 -- what is written, by number
 abbrev pub filled : Written → Filled
 filled o = record { reply = numbered (o .answer) (o .window); out = o .out }
+
+-- what a move gives back, and leaves in the lent store and in the two outputs
+pub record Carried : Type 0 where
+  pub reply : Reply
+  pub store : Store
+  pub out : List ℕ
+  pub sizes : List ℕ
+
+-- a move, by number
+abbrev pub carried : Moved → Carried
+carried m = record { reply = numbered (m .answer) (m .window); store = m .store; out = m .out; sizes = m .sizes }

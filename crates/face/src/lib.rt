@@ -15,7 +15,8 @@ ghost use Rattle.table.specs.View.{rowWords};
 ghost use Rattle.rtp.specs.Fec.{column, row};
 ghost use Rattle.calls.specs.Call.{asked, wiped, opened, offeredMedia, offeredParity, readOut, wroteParity};
 ghost use Rattle.face.specs.Reply.{numbered, replied, filled};
-ghost use Rattle.face.specs.Done.{reached, fewRecords, fewWords, allWords, Done, Given};
+ghost use Rattle.calls.specs.Move.{moved};
+ghost use Rattle.face.specs.Done.{reached, fewRecords, fewWords, allWords, Done, Given, Carries};
 
 // An answer by document 01's number and counts, and the next window value.
 #[repr(C)]
@@ -363,4 +364,43 @@ pub fn write_row(
     let next = r.receiver;
     let window = next.window;
     by_number(answer, window)
+}
+
+// The base advances by a number of positions.
+pub fn advance(
+    w: Window,
+    by: usize,
+    media: &mut [u8],
+    timestamps: &mut [u32],
+    lengths: &mut [u16],
+    marks: &mut [u8],
+    parity: &mut [u8],
+    words: &mut [u32],
+    m: usize,
+    len: usize,
+    out: &mut [u8],
+    sizes: &mut [u16],
+) -> Finished
+    requires { ⌜ (m + 1) * rowWords ≤ length (now words) ⌝ }
+    ensures { λ r. ⌜ Carries (λ s. moved w by s (now (out .entry)) (now (sizes .entry))) len (w .k) m (now (media .entry)) (now (timestamps .entry)) (now (lengths .entry)) (now (marks .entry)) (now (parity .entry)) (now (words .entry))
+        (now (media .exit)) (now (timestamps .exit)) (now (lengths .exit)) (now (marks .exit)) (now (parity .exit)) (now (words .exit)) (now (out .exit)) (now (sizes .exit)) r ⌝ }
+{
+    let receiver = Receiver { window: w };
+    let r = receiver.advance(
+        by,
+        media,
+        timestamps,
+        lengths,
+        marks,
+        parity,
+        words,
+        m,
+        len,
+        out,
+        sizes,
+    );
+    let answer = r.answer;
+    let next = r.receiver;
+    let window = next.window;
+    finish(answer, window, r.rows, r.changed)
 }

@@ -90,4 +90,3 @@ advance-spec =
     same-length-7
     same-length-8
     returns-2)
-
