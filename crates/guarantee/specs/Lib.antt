@@ -1,5 +1,7 @@
 pub mod Demand3
 pub mod Start
+pub mod Moving
+pub mod Life
 pub mod Demand2
 pub mod Waiting
 pub mod Zero
@@ -24,7 +26,15 @@ pub mod Fine
 pub mod Opening
 pub mod Recount
 pub mod Run
+pub mod Kept
 pub mod Theorem
+pub mod Shift
+pub mod Onward
+pub mod Released
+pub mod Slots
+pub mod Moved
+pub mod Lived
+pub mod Dawn
 pub mod Made
 pub mod Budget
 pub mod Counting

@@ -187,9 +187,13 @@ module _ {w : Window} {a u : ℕ} {s : Store} (G : Good w a u s) (r : ℕ) (hr :
   size : Clean (w .p) 0 (replicate (w .p) 0)
   size = take-all (w .p) (replicate (w .p) 0) (omega (arith, length-replicate {A = ℕ} (w .p) 0))
 
-  -- a record that is set to zero is not in use
+  -- it is zero
+  pub freed-blank : recordAt (freed w s r) r ≡ blank
+  freed-blank = record-same G r blank (replicate (w .p) 0) hr size
+
+  -- so it is not in use
   freed-off : inUse w (freed w s r) r ≡ false
-  freed-off = rw (record-same G r blank (replicate (w .p) 0) hr size)
+  freed-off = rw freed-blank
 
   -- a record that is still in use is another
   pub freed-other : (q : ℕ) → inUse w (freed w s r) q ≡ true → q ≢ r

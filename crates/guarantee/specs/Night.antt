@@ -52,7 +52,7 @@ small (suc n) x b h (List·Memᴰ·head e) = omega arith
 small (suc n) x b h (List·Memᴰ·tail m) = small n x b h m
 
 -- it fills the window
-fills : Fills window stretch
+pub fills : Fills window stretch
 unfolding stretch tsPacket
 fills = record { timestamp-fits = λ i h. omega arith; size = λ i h. long i (eqb (i % 8) 0); bytes = λ i h b m. each i b h (eqb (i % 8) 0) m }
   where

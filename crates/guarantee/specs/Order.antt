@@ -18,8 +18,10 @@ use Rattle.window.specs.Store.{Store, shortStore, recordAt}
 use Rattle.window.specs.Order.{inUse, sameGroup, disorder}
 use Rattle.calls.specs.State.{recount}
 use Rattle.calls.specs.Call.{standingTests}
-use Rattle.calls.specs.Standing.{Standing}
+use Rattle.calls.specs.Standing.{Standing, standing-good}
 use Rattle.guarantee.specs.View.{Limits, checkAt, Good, Missing}
+use Rattle.guarantee.specs.Demand3.{Stretch}
+use Rattle.guarantee.specs.Start.{Start}
 
 -- the limits do not speak of the counts
 pub limits-of : (w : Window) (a u : ℕ) → w .base < 2 ^ width → SetUp (recount w a u) → Limits w
@@ -116,3 +118,14 @@ module _ (w : Window) (a u : ℕ) (s : Store) where
   -- and back
   pub stands : None (setUpTests w) → Ordered → None (standingTests (recount w a u) s 0 0)
   stands n o = (n .0, (n .1 .0, (n .1 .1 .0, (rw (not-short w s (o .good .fits)) refl, (good-order o, tt)))))
+
+-- ---- a start
+
+module _ {w : Window} {t : Stretch} {s : Store} (S : Start w t s) where
+  -- its window value is within its limits
+  pub start-limits : Limits w
+  start-limits = limits w (S .base-fits) (set-up-passes w s (S .passes))
+
+  -- and its store is in order
+  pub start-ordered : Ordered w (w .present) (w .«in_use») s
+  start-ordered = standing w (w .present) (w .«in_use») s (standing-good w s 0 0 (S .passes))

@@ -16,7 +16,7 @@ pub length-part : (p : ℕ) (part : List ℕ) (n i : ℕ) → length (payloadIn 
 length-part p part n i = length-padded p (take n (drop (i * p) part))
 
 -- it is known by the first p bytes there
-by-front : (p n m : ℕ) (l : List ℕ) → take p (take n l ++ replicate m 0) ≡ take p (take n (take p l) ++ replicate m 0)
+pub by-front : (p n m : ℕ) (l : List ℕ) → take p (take n l ++ replicate m 0) ≡ take p (take n (take p l) ++ replicate m 0)
 by-front zero n m l = refl
 by-front (suc p) zero m l = refl
 by-front (suc p) (suc n) m [] = refl

@@ -65,11 +65,21 @@ module _ (test : ℕ → Bool) where
   all-of (j ∷ l) e i (List·Memᴰ·head q) = rw q (both (test j) (all test l) e .0)
   all-of (j ∷ l) e i (List·Memᴰ·tail m) = all-of l (both (test j) (all test l) e .1) i m
 
+  -- and one that holds of each element holds of all
+  pub of-all : (l : List ℕ) → ((i : ℕ) → List·Memᴰ i l → test i ≡ true) → all test l ≡ true
+  of-all [] h = refl
+  of-all (j ∷ l) h = rw (h j (List·Memᴰ·head refl)) (of-all l (λ i m. h i (List·Memᴰ·tail m)))
+
   -- one that holds of none of a list holds of no element
   pub any-none : (l : List ℕ) → any test l ≡ false → (i : ℕ) → List·Memᴰ i l → test i ≡ false
   any-none [] e i m = absurd (List·Memᴰ·not-nil m)
   any-none (j ∷ l) e i (List·Memᴰ·head q) = rw q (or-split (test j) (any test l) e .0)
   any-none (j ∷ l) e i (List·Memᴰ·tail m) = any-none l (or-split (test j) (any test l) e .1) i m
+
+  -- one that holds of all of a list holds of some element, if there is one
+  pub all-any : (l : List ℕ) → 0 < length l → all test l ≡ true → any test l ≡ true
+  all-any [] h e = absurd (omega arith)
+  all-any (j ∷ l) h e = rw (both (test j) (all test l) e .0)
 
   -- a test that holds of some element
   pub any-some : (l : List ℕ) → any test l ≡ true → (i : ℕ) × List·Memᴰ i l × (test i ≡ true)

@@ -69,7 +69,7 @@ pub recovery-sum : (w : Window) (t : Stretch) (g : List ℕ) → packetOf (recov
 recovery-sum w t = packet-total (w .p) (contentSent w t) (sent-whole w t)
 
 -- a group has members
-group-some : {w : Window} → Limits w → (stream snbase : ℕ) → 0 < length (group w stream snbase)
+pub group-some : {w : Window} → Limits w → (stream snbase : ℕ) → 0 < length (group w stream snbase)
 group-some {w} L stream snbase =
     let na = naOf stream (w .l) (w .d) in
     let a = length-map (members width snbase (offsetOf stream (w .l)) na) (position w) in

@@ -18,24 +18,25 @@ use Rattle.window.specs.declared.Window.{Window}
 use Rattle.window.specs.Limits.{width, parityRoom}
 use Rattle.window.specs.Store.{Store, lengthAt, payloadAt}
 use Rattle.window.specs.Group.{group, inside, isMissing}
-use Rattle.calls.specs.Content.{Recovery, contentAt, recoveryAt}
+use Rattle.calls.specs.Content.{Recovery}
 use Rattle.calls.specs.State.{recount}
 use Rattle.calls.specs.Call.{Outcome, standingTests, asked, cleared, opened}
 use Rattle.calls.specs.Passed.{none-first}
 use Rattle.peel.specs.Peel as Theory
 use Rattle.peel.specs.Rest.{Still}
-use Rattle.peel.specs.Theorem.{right, stopping, missing-iff, same, run-inv, never-spoilt}
+use Rattle.peel.specs.Theorem.{stopping, missing-iff, same, never-spoilt}
 use Rattle.guarantee.specs.Ranges.{decide, keep-ext, count-keep}
-use Rattle.guarantee.specs.Packets.{Packet, packet-content}
+use Rattle.guarantee.specs.Packets.{Packet}
 use Rattle.guarantee.specs.Lengths.{padded-front, units-le}
-use Rattle.guarantee.specs.View.{Limits, groupOf, group-lt, code, checkAt, packetAt, view, slot-present, miss-mark, Good, content-whole, mark-one}
+use Rattle.guarantee.specs.View.{Limits, groupOf, group-lt, code, view, miss-mark, Good, mark-one}
 use Rattle.guarantee.specs.Recount.{fills-on, holds-on, unaltered-on}
 use Rattle.guarantee.specs.Order.{limits, stands}
 use Rattle.guarantee.specs.Accepted.{rests}
-use Rattle.guarantee.specs.Demand3.{Port, mediaPort, columnPort, rowPort, Offer, offered, run, answers, Stretch, Fills, contentSent, UnalteredOn, Unaltered, Name, mediaName, nameOn, namesOf, Received, groupNamed, distinctGroups, Given, markAt, Hidden, Demand3, Claim, SamePackets, ClaimSame}
+use Rattle.guarantee.specs.Demand3.{Port, mediaPort, columnPort, rowPort, Offer, offered, run, answers, Stretch, Fills, UnalteredOn, Unaltered, Name, mediaName, nameOn, namesOf, Received, groupNamed, distinctGroups, Given, markAt, Hidden, Demand3, Claim, SamePackets, ClaimSame}
 use Rattle.guarantee.specs.Start.{Holds, Start, heldAnd, every, counted, receivedFrom, GivenFrom, ClaimFrom, ClaimSameFrom, ClaimChain}
-use Rattle.guarantee.specs.Sent.{sent, seen, sent-whole, parity-read}
-use Rattle.guarantee.specs.Names.{Got, got-check, got-unaltered, media-in, check-in, in-media, in-check}
+use Rattle.guarantee.specs.Sent.{sent, seen, parity-read}
+use Rattle.guarantee.specs.Names.{Got, media-in, check-in, in-media, in-check}
+use Rattle.guarantee.specs.Kept as Kept
 use Rattle.guarantee.specs.Run.{Arrived, Ready, ready-at, arrives}
 use Rattle.guarantee.specs.Opening.{opening, opened-start, none-held}
 
@@ -49,31 +50,19 @@ module _ {w : Window} {a u : ℕ} {s : Store} {t : Stretch} {offers : List Offer
 
   -- what was received is unaltered
   unaltered : (p : Theory.Offer (ℕ × ℕ) Recovery Packet) → Got w s (counted w offers) p → Theory.Unaltered (code w) (sent w t) p
-  unaltered = got-unaltered L (R .fills) (R .ordered .good) (R .unaltered) (R .holds)
+  unaltered = Kept.unaltered L (R .fills) (R .ordered .good) (R .holds) (R .unaltered) (y .store) (arrived .runs)
 
   -- nothing of it was lost
   inv : Theory.Inv (code w) (Got w s (counted w offers)) (view w (y .store))
-  inv = run-inv (code w) (sent w t) unaltered (arrived .runs)
+  inv = Kept.inv L (R .fills) (R .ordered .good) (R .holds) (R .unaltered) (y .store) (arrived .runs)
 
   -- and no answer counts a check as spoilt
   unspoilt : (a : Answer) → List·Memᴰ a answered → spoiltOf a ≡ 0
   unspoilt a m = ⊎-elim (λ e. e) (λ b. absurd (never-spoilt (code w) (sent w t) unaltered b)) (arrived .clear a m)
 
-  -- what is present is what was sent
-  present-sent : (i : ℕ) → i < w .n → markAt (y .store) i ≡ 1 → contentAt w (y .store) i ≡ contentSent w t i
-  present-sent i h e =
-      let n : isMissing (y .store .marks) i ≡ false = rw e in
-      packet-content (contentAt w (y .store) i) (contentSent w t i) (content-whole w (y .store) i) (sent-whole w t i)
-      (right (code w) (sent w t) (inv .sound) unaltered i (packetAt w (y .store) i) (slot-present w (y .store) i h n))
-
-  -- and all that the store holds is unaltered again
+  -- all that the store holds is unaltered again
   holds-again : Holds w t (y .store)
-  holds-again = record {
-    media = present-sent;
-    parity = λ r h e. let k = checkAt (y .store) r in
-        let v = recoveryAt w (y .store) r in
-        got-check L (R .fills) (R .ordered .good) (R .unaltered) (R .holds) k v (inv .sound .kept k v (record { at = r; below = h; used = e; names = refl; carries = refl }));
-  }
+  holds-again = Kept.holds-again L (R .fills) (R .ordered .good) (R .holds) (R .unaltered) (y .store) (arrived .runs)
 
   -- so it is a start, with the counts that it has then
   start-again : Start (recount w (arrived .fine .present) (arrived .fine .used)) t (y .store)
@@ -121,7 +110,7 @@ module _ {w : Window} {a u : ℕ} {s : Store} {t : Stretch} {offers : List Offer
     conclusions : Demand3 w t (receivedFrom w s offers) answered (y .store)
     conclusions = record {
       mark = λ i h. ⊎-elim (λ e. inl (eqb-true (markAt (y .store) i) 0 e)) (λ e. inr (mark-one (arrived .fine .order .good) i h e)) (decide (isMissing (y .store .marks) i));
-      present = present-sent;
+      present = holds-again .media;
       unspoilt = unspoilt;
       missing = λ i h. (
         λ e. (λ j. ltb j (w .n) && Theory.miss (view w (y .store)) j, missing-hidden, rw (lt-ltb i (w .n) h, miss-mark w (y .store) i h, e)),

@@ -1,0 +1,136 @@
+-- A window value whose base moved on, and a store whose positions moved down (calls' Move.antt): positions, groups, marks and contents.
+use mathlib.Core.Path.{_≡_, refl, sym, ap, _∙_}
+use mathlib.Core.Bool.{Bool, false, cond}
+use mathlib.Core.List.{List, [], _∷_, _++_, map, append-assoc}
+use Prim.Native.Nat.{ℕ, zero, suc, _+_, _*_, _-_, _%_, _^_, _<_, _≤_}
+use native.Mathlib.Nat.{mod-lt, mod-add-mod, add-mod-mod, add-mod-right, add-mul, zero-add, suc-add, mul-le-mul-right}
+use native.Mathlib.Numerals.{add-one}
+use native.Mathlib.Omega.{arith}
+use lib.Dec.{ltb}
+use lib.ListN.{length, getD, take, drop, replicate, length-append, length-replicate, length-drop, List·getD-append, getD-replicate}
+use lib.Seq.{drop-append-add, take-nil, take-take, drop-drop, take-append-le, drop-append-le, length-take-le, getD-append-add, getD-take, getD-drop}
+use lib.Pow.{pow-pos}
+use borrow.Author.Tests.{ltb-false}
+use Rattle.xor.specs.Xor.{padded}
+use Rattle.sequence.specs.Lists.{upTo, any, count, count-more, or-split}
+use Rattle.sequence.specs.Wrap.{ahead, numberAt, ahead-numberAt, ahead-lt}
+use Rattle.window.specs.Store.{payloadIn}
+use Rattle.calls.specs.Move.{movedDown}
+use Rattle.guarantee.specs.Parts.{by-front, part-fits}
+
+-- ---- numbers, over their width
+
+module _ (w base : ℕ) where
+  -- the number some positions after the number at a position
+  pub numberAt-onward : (i j : ℕ) → numberAt w (numberAt w base i) j ≡ numberAt w base (i + j)
+  numberAt-onward i j = let e : base + i + j ≡ base + (i + j) = omega arith in rw (mod-add-mod, e)
+
+  -- a number that lies no less ahead of a base than the base moves on lies by so many less ahead of the new one
+  pub ahead-onward : (by number : ℕ) → base ≤ 2 ^ w → by ≤ ahead w base number → ahead w base number ≡ by + ahead w (numberAt w base by) number
+  ahead-onward by number h l =
+      let q = ahead w base number in
+      let new = numberAt w base by in
+      let low : q - by < 2 ^ w = omega (arith, ahead-lt w base number) in
+      let small : new ≤ 2 ^ w = omega (arith, mod-lt (base + by) (pow-pos w)) in
+      let e : base + (number + (2 ^ w - base)) ≡ number + 2 ^ w = omega arith in
+      let f : by + (q - by) ≡ q = omega arith in
+      let there : numberAt w new (q - by) ≡ number % 2 ^ w = numberAt-onward by (q - by) ∙ ap (numberAt w base) f ∙ add-mod-mod base (number + (2 ^ w - base)) (2 ^ w) ∙ ap (λ k. k % 2 ^ w) e ∙ add-mod-right number (2 ^ w) in
+      let back : ahead w new (number % 2 ^ w) ≡ ahead w new number = mod-add-mod number (2 ^ w) (2 ^ w - new) in
+      let g : q - by ≡ ahead w new number = sym (ahead-numberAt w new small (q - by) low) ∙ ap (ahead w new) there ∙ back in
+      omega arith
+
+-- ---- a part of the store
+
+-- the front of a later part, by what stands before its end
+take-drop : (at m : ℕ) (l : List ℕ) → take m (drop at l) ≡ drop at (take (at + m) l)
+take-drop zero m l = rw zero-add
+take-drop (suc at) m [] = take-nil m ∙ sym (ap (drop (suc at)) (take-nil (suc at + m)))
+take-drop (suc at) m (x ∷ l) = rw suc-add (take-drop at m l)
+
+-- zeros
+abbrev zeros : ℕ → List ℕ
+zeros m = replicate m 0
+
+-- a run of zeros among zeros
+zeros-run : (at size m : ℕ) → at + size ≤ m → take size (drop at (zeros m)) ≡ zeros size
+zeros-run zero zero m h = refl
+zeros-run zero (suc size) zero h = absurd (omega arith)
+zeros-run zero (suc size) (suc m) h = ap (λ l. 0 ∷ l) (zeros-run zero size m (omega arith))
+zeros-run (suc at) size zero h = absurd (omega arith)
+zeros-run (suc at) size (suc m) h = zeros-run at size m (omega arith)
+
+module _ (m n : ℕ) (part : List ℕ) (hm : m ≤ n) (hn : n ≤ length part) where
+  -- what moves
+  abbrev kept : List ℕ
+  kept = take (n - m) (drop m part)
+
+  -- that is n - m elements
+  length-kept : length kept ≡ n - m
+  length-kept = length-take-le (n - m) (drop m part) (omega (arith, length-drop m part))
+
+  -- the part is as long as it was
+  pub length-moved : length (movedDown m n part) ≡ length part
+  length-moved = omega (arith, length-append (kept ++ replicate m 0) (drop n part), length-append kept (replicate m 0), length-kept, length-replicate {A = ℕ} m 0, length-drop n part)
+
+  -- an element that moved
+  pub moved-at : (i : ℕ) → i < n - m → getD (movedDown m n part) i 0 ≡ getD part (m + i) 0
+  moved-at i h =
+      List·getD-append (kept ++ replicate m 0) (drop n part) 0 i (omega (arith, length-append kept (replicate m 0), length-kept))
+      ∙ List·getD-append kept (replicate m 0) 0 i (omega (arith, length-kept)) ∙ getD-take (n - m) (drop m part) i 0 h ∙ getD-drop m part i 0
+
+  -- a new one
+  pub moved-new : (i : ℕ) → i < m → getD (movedDown m n part) (n - m + i) 0 ≡ 0
+  moved-new i h =
+      List·getD-append (kept ++ replicate m 0) (drop n part) 0 (n - m + i) (omega (arith, length-append kept (replicate m 0), length-kept, length-replicate {A = ℕ} m 0))
+      ∙ ap (λ k. getD (kept ++ replicate m 0) (k + i) 0) (sym length-kept) ∙ getD-append-add kept (replicate m 0) i 0 ∙ getD-replicate m i 0 0 h
+
+  -- a run of elements that moved
+  pub moved-run : (at size : ℕ) → at + size ≤ n - m → take size (drop at (movedDown m n part)) ≡ take size (drop (m + at) part)
+  moved-run at size h =
+      let k = length-kept in
+      let e : movedDown m n part ≡ kept ++ (replicate m 0 ++ drop n part) = append-assoc kept (replicate m 0) (drop n part) in
+      ap (λ l. take size (drop at l)) e ∙ ap (take size) (drop-append-le at kept (replicate m 0 ++ drop n part) (omega arith))
+      ∙ take-append-le size (drop at kept) (replicate m 0 ++ drop n part) (omega (arith, length-drop at kept)) ∙ take-drop at size kept
+      ∙ ap (drop at) (take-take (at + size) (n - m) (drop m part) h) ∙ sym (take-drop at size (drop m part)) ∙ ap (take size) (drop-drop at m part)
+
+  -- a run of new ones
+  pub moved-zeros : (at size : ℕ) → at + size ≤ m → take size (drop (n - m + at) (movedDown m n part)) ≡ zeros size
+  moved-zeros at size h =
+      let k = length-kept in
+      let z = length-replicate {A = ℕ} m 0 in
+      ap (λ l. take size (drop (n - m + at) l)) (append-assoc kept (zeros m) (drop n part)) ∙ ap (λ j. take size (drop (j + at) (kept ++ (zeros m ++ drop n part)))) (sym k)
+      ∙ ap (take size) (drop-append-add kept (zeros m ++ drop n part) at ∙ drop-append-le at (zeros m) (drop n part) (omega arith))
+      ∙ take-append-le size (drop at (zeros m)) (drop n part) (omega (arith, length-drop at (zeros m))) ∙ zeros-run at size m h
+
+-- payloads of p bytes, one for each position
+pub moved-payload : (by n p : ℕ) (part : List ℕ) → by ≤ n → n * p ≤ length part → (size i : ℕ) → i < n - by
+    → payloadIn p (movedDown (by * p) (n * p) part) size i ≡ payloadIn p part size (by + i)
+moved-payload by n p part hb hn size i h =
+    let e : (by + i) * p ≡ by * p + i * p = add-mul by i p in
+    let f : by * p ≤ n * p = mul-le-mul-right p hb in
+    let g = part-fits (by + i) n p (omega arith) in
+    let r = moved-run (by * p) (n * p) part f hn (i * p) p (omega arith) in
+    by-front p size p (drop (i * p) (movedDown (by * p) (n * p) part)) ∙ ap (λ l. padded p (take size l)) (r ∙ ap (λ k. take p (drop k part)) (sym e))
+    ∙ sym (by-front p size p (drop ((by + i) * p) part))
+
+-- ---- counts
+
+-- of the numbers below a sum
+pub count-split : (test : ℕ → Bool) (a b : ℕ) → count test (upTo (a + b)) ≡ count test (upTo a) + count (λ i. test (a + i)) (upTo b)
+count-split test a zero = let e : a + 0 ≡ a = omega arith in rw e (omega arith)
+count-split test a (suc b) =
+    let e : a + suc b ≡ a + b + 1 = omega arith in
+    let f : count (λ i. test (a + i)) (upTo (suc b)) ≡ count (λ i. test (a + i)) (upTo b) + cond (test (a + b)) 1 0 = ap (λ k. count (λ i. test (a + i)) (upTo k)) (sym (add-one b)) ∙ count-more (λ i. test (a + i)) b in
+    ap (λ k. count test (upTo k)) e ∙ count-more test (a + b) ∙ (omega (arith, count-split test a b, f))
+
+-- ---- the groups of a window whose base moved on
+
+-- numbers that lie no less ahead of a base than that moves on
+pub onward-all : (w base by : ℕ) → base ≤ 2 ^ w → (numbers : List ℕ) → any (λ i. ltb i by) (map (ahead w base) numbers) ≡ false
+    → map (ahead w base) numbers ≡ map (λ i. by + i) (map (ahead w (numberAt w base by)) numbers)
+onward-all w base by h [] e = refl
+onward-all w base by h (number ∷ numbers) e =
+    let s = or-split (ltb (ahead w base number) by) (any (λ i. ltb i by) (map (ahead w base) numbers)) e in
+    let head = ahead-onward w base by number h (ltb-false (ahead w base number) by (s .0)) in
+    let tail = onward-all w base by h numbers (s .1) in
+    λ k. head k ∷ tail k
