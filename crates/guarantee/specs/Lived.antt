@@ -14,7 +14,7 @@ use Rattle.answer.specs.declared.Answer.the-variants.{Done, Refused}
 use Rattle.answer.specs.Number.{numberOf}
 use Rattle.answer.specs.First.{first}
 use Rattle.sequence.specs.Lists.{upTo, length-upTo}
-use Rattle.sequence.specs.Wrap.{numberAt}
+use Rattle.sequence.specs.Wrap.{numberAt, numberAt-onward}
 use Rattle.rtp.specs.Rtp.{sequenceNumber}
 use Rattle.rtp.specs.Fec.{column, row}
 use Rattle.window.specs.declared.Window.{Window}
@@ -39,7 +39,6 @@ use Rattle.guarantee.specs.Start.{Start, SameSetUp}
 use Rattle.guarantee.specs.Theorem.{demand3-from}
 use Rattle.guarantee.specs.Moving.{onward, slotOf}
 use Rattle.guarantee.specs.Life.{Event, offer, move, Life, born, moving, afterOne, after, Feed, Feeds, hasPlace, under, Fair, AllFair, Lived, ClaimOutside, ClaimLife, ClaimOneEach, nextGets, ClaimThen}
-use Rattle.guarantee.specs.Shift.{numberAt-onward}
 use Rattle.guarantee.specs.Slots.{map-at, slot-read}
 use Rattle.guarantee.specs.Moved.{move-ways, move-done, move-within, moved-set-up, moved-start, leaving-sent}
 

@@ -11,7 +11,7 @@ use lib.Dec.{eqb, ltb}
 use lib.ListN.{length, getD, take, drop}
 use borrow.Author.Tests.{ltb-true, lt-ltb, eqb-true}
 use Rattle.xor.specs.Xor.{xorAll, xorPayloads}
-use Rattle.sequence.specs.Lists.{upTo, all, any, count, count-map, all-map}
+use Rattle.sequence.specs.Lists.{upTo, all, any, count, count-map, count-split, all-map}
 use Rattle.sequence.specs.Wrap.{members}
 use Rattle.rtp.specs.Fec.{offsetOf, naOf}
 use Rattle.window.specs.declared.Window.{Window}
@@ -21,10 +21,11 @@ use Rattle.window.specs.Group.{inside, isMissing, missing}
 use Rattle.window.specs.Order.{isPresent, inUse, groupAt, missingAt}
 use Rattle.calls.specs.Content.{contentAt, longest}
 use Rattle.calls.specs.Move.{leavingCount, shifted, advanced}
+use Rattle.calls.specs.Down.{length-moved, moved-at, moved-new}
 use Rattle.guarantee.specs.Ranges.{upTo-lt, all-of, of-all, keep-ext, count-zero}
 use Rattle.guarantee.specs.Parts.{part-fits}
 use Rattle.guarantee.specs.View.{Limits, Good, Missing}
-use Rattle.guarantee.specs.Shift.{length-moved, moved-at, moved-new, moved-run, moved-zeros, moved-payload, count-split, onward-all}
+use Rattle.guarantee.specs.Shift.{moved-run, moved-zeros, moved-payload, onward-all}
 use Rattle.guarantee.specs.Demand3.{Stretch, recoverySent, contentSent}
 use Rattle.guarantee.specs.Start.{Holds}
 use Rattle.guarantee.specs.Moving.{onward, cellAt, emptyCell}

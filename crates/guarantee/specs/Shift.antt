@@ -13,39 +13,14 @@ use lib.Pow.{pow-pos}
 use borrow.Author.Tests.{ltb-false}
 use Rattle.xor.specs.Xor.{padded}
 use Rattle.sequence.specs.Lists.{upTo, any, count, count-more, or-split}
-use Rattle.sequence.specs.Wrap.{ahead, numberAt, ahead-numberAt, ahead-lt}
+use Rattle.sequence.specs.Wrap.{ahead, numberAt, ahead-onward}
 use Rattle.window.specs.Store.{payloadIn}
 use Rattle.calls.specs.Move.{movedDown}
+use Rattle.calls.specs.Down.{length-kept}
+use Rattle.xor.specs.Parts.{take-drop}
 use Rattle.guarantee.specs.Parts.{by-front, part-fits}
 
--- ---- numbers, over their width
-
-module _ (w base : ℕ) where
-  -- the number some positions after the number at a position
-  pub numberAt-onward : (i j : ℕ) → numberAt w (numberAt w base i) j ≡ numberAt w base (i + j)
-  numberAt-onward i j = let e : base + i + j ≡ base + (i + j) = omega arith in rw (mod-add-mod, e)
-
-  -- a number that lies no less ahead of a base than the base moves on lies by so many less ahead of the new one
-  pub ahead-onward : (by number : ℕ) → base ≤ 2 ^ w → by ≤ ahead w base number → ahead w base number ≡ by + ahead w (numberAt w base by) number
-  ahead-onward by number h l =
-      let q = ahead w base number in
-      let new = numberAt w base by in
-      let low : q - by < 2 ^ w = omega (arith, ahead-lt w base number) in
-      let small : new ≤ 2 ^ w = omega (arith, mod-lt (base + by) (pow-pos w)) in
-      let e : base + (number + (2 ^ w - base)) ≡ number + 2 ^ w = omega arith in
-      let f : by + (q - by) ≡ q = omega arith in
-      let there : numberAt w new (q - by) ≡ number % 2 ^ w = numberAt-onward by (q - by) ∙ ap (numberAt w base) f ∙ add-mod-mod base (number + (2 ^ w - base)) (2 ^ w) ∙ ap (λ k. k % 2 ^ w) e ∙ add-mod-right number (2 ^ w) in
-      let back : ahead w new (number % 2 ^ w) ≡ ahead w new number = mod-add-mod number (2 ^ w) (2 ^ w - new) in
-      let g : q - by ≡ ahead w new number = sym (ahead-numberAt w new small (q - by) low) ∙ ap (ahead w new) there ∙ back in
-      omega arith
-
 -- ---- a part of the store
-
--- the front of a later part, by what stands before its end
-take-drop : (at m : ℕ) (l : List ℕ) → take m (drop at l) ≡ drop at (take (at + m) l)
-take-drop zero m l = rw zero-add
-take-drop (suc at) m [] = take-nil m ∙ sym (ap (drop (suc at)) (take-nil (suc at + m)))
-take-drop (suc at) m (x ∷ l) = rw suc-add (take-drop at m l)
 
 -- zeros
 abbrev zeros : ℕ → List ℕ
@@ -64,30 +39,10 @@ module _ (m n : ℕ) (part : List ℕ) (hm : m ≤ n) (hn : n ≤ length part) w
   abbrev kept : List ℕ
   kept = take (n - m) (drop m part)
 
-  -- that is n - m elements
-  length-kept : length kept ≡ n - m
-  length-kept = length-take-le (n - m) (drop m part) (omega (arith, length-drop m part))
-
-  -- the part is as long as it was
-  pub length-moved : length (movedDown m n part) ≡ length part
-  length-moved = omega (arith, length-append (kept ++ replicate m 0) (drop n part), length-append kept (replicate m 0), length-kept, length-replicate {A = ℕ} m 0, length-drop n part)
-
-  -- an element that moved
-  pub moved-at : (i : ℕ) → i < n - m → getD (movedDown m n part) i 0 ≡ getD part (m + i) 0
-  moved-at i h =
-      List·getD-append (kept ++ replicate m 0) (drop n part) 0 i (omega (arith, length-append kept (replicate m 0), length-kept))
-      ∙ List·getD-append kept (replicate m 0) 0 i (omega (arith, length-kept)) ∙ getD-take (n - m) (drop m part) i 0 h ∙ getD-drop m part i 0
-
-  -- a new one
-  pub moved-new : (i : ℕ) → i < m → getD (movedDown m n part) (n - m + i) 0 ≡ 0
-  moved-new i h =
-      List·getD-append (kept ++ replicate m 0) (drop n part) 0 (n - m + i) (omega (arith, length-append kept (replicate m 0), length-kept, length-replicate {A = ℕ} m 0))
-      ∙ ap (λ k. getD (kept ++ replicate m 0) (k + i) 0) (sym length-kept) ∙ getD-append-add kept (replicate m 0) i 0 ∙ getD-replicate m i 0 0 h
-
   -- a run of elements that moved
   pub moved-run : (at size : ℕ) → at + size ≤ n - m → take size (drop at (movedDown m n part)) ≡ take size (drop (m + at) part)
   moved-run at size h =
-      let k = length-kept in
+      let k = length-kept m n part hm hn in
       let e : movedDown m n part ≡ kept ++ (replicate m 0 ++ drop n part) = append-assoc kept (replicate m 0) (drop n part) in
       ap (λ l. take size (drop at l)) e ∙ ap (take size) (drop-append-le at kept (replicate m 0 ++ drop n part) (omega arith))
       ∙ take-append-le size (drop at kept) (replicate m 0 ++ drop n part) (omega (arith, length-drop at kept)) ∙ take-drop at size kept
@@ -96,7 +51,7 @@ module _ (m n : ℕ) (part : List ℕ) (hm : m ≤ n) (hn : n ≤ length part) w
   -- a run of new ones
   pub moved-zeros : (at size : ℕ) → at + size ≤ m → take size (drop (n - m + at) (movedDown m n part)) ≡ zeros size
   moved-zeros at size h =
-      let k = length-kept in
+      let k = length-kept m n part hm hn in
       let z = length-replicate {A = ℕ} m 0 in
       ap (λ l. take size (drop (n - m + at) l)) (append-assoc kept (zeros m) (drop n part)) ∙ ap (λ j. take size (drop (j + at) (kept ++ (zeros m ++ drop n part)))) (sym k)
       ∙ ap (take size) (drop-append-add kept (zeros m ++ drop n part) at ∙ drop-append-le at (zeros m) (drop n part) (omega arith))
@@ -112,16 +67,6 @@ moved-payload by n p part hb hn size i h =
     let r = moved-run (by * p) (n * p) part f hn (i * p) p (omega arith) in
     by-front p size p (drop (i * p) (movedDown (by * p) (n * p) part)) ∙ ap (λ l. padded p (take size l)) (r ∙ ap (λ k. take p (drop k part)) (sym e))
     ∙ sym (by-front p size p (drop ((by + i) * p) part))
-
--- ---- counts
-
--- of the numbers below a sum
-pub count-split : (test : ℕ → Bool) (a b : ℕ) → count test (upTo (a + b)) ≡ count test (upTo a) + count (λ i. test (a + i)) (upTo b)
-count-split test a zero = let e : a + 0 ≡ a = omega arith in rw e (omega arith)
-count-split test a (suc b) =
-    let e : a + suc b ≡ a + b + 1 = omega arith in
-    let f : count (λ i. test (a + i)) (upTo (suc b)) ≡ count (λ i. test (a + i)) (upTo b) + cond (test (a + b)) 1 0 = ap (λ k. count (λ i. test (a + i)) (upTo k)) (sym (add-one b)) ∙ count-more (λ i. test (a + i)) b in
-    ap (λ k. count test (upTo k)) e ∙ count-more test (a + b) ∙ (omega (arith, count-split test a b, f))
 
 -- ---- the groups of a window whose base moved on
 

@@ -2,13 +2,13 @@
 -- apart from. Assumes nothing.
 use mathlib.Core.Path.{_≡_, refl, sym, ap, _∙_}
 use mathlib.Core.Bool.{Bool, true, false, _&&_}
-use mathlib.Core.List.{List, [], _∷_, map}
+use mathlib.Core.List.{List}
 use Prim.Native.Nat.{ℕ, _+_, _*_, _^_, _<_, _≤_}
 use native.Mathlib.Omega.{arith}
 use lib.Dec.{ltb}
 use lib.ListN.{length}
 use borrow.Author.Tests.{lt-ltb, le-ltb, ltb-true, ltb-false}
-use Rattle.sequence.specs.Lists.{upTo, any, any-false, false-any}
+use Rattle.sequence.specs.Lists.{upTo, any, any-map, any-false, false-any}
 use Rattle.sequence.specs.Line.{line}
 use Rattle.rtp.specs.Fec.{offsetOf, naOf}
 use Rattle.window.specs.declared.Record.{Record}
@@ -28,11 +28,6 @@ use Rattle.table.specs.Sound.{Sound}
 use Rattle.engine.specs.Rows.{Desk, freeBelow}
 use Rattle.engine.proofs.Free.{desk, first-holds, Keeps, keeps-all, row-record, free-each}
 use Rattle.moving.specs.Rows.{rowBehind}
-
--- a test of the places of a line
-any-map : (test : ℕ → Bool) (f : ℕ → ℕ) (l : List ℕ) → any test (map f l) ≡ any (λ j. test (f j)) l
-any-map test f [] = refl
-any-map test f (i ∷ l) = rw (any-map test f l)
 
 -- some place of a line lies below a number where the first one does
 line-below : (at offset na by : ℕ) → 0 < na → any (λ i. ltb i by) (line at offset na) ≡ ltb at by

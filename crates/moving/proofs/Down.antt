@@ -1,15 +1,16 @@
 -- A part whose first n elements move down by m, block by block and element by element. Assumes nothing.
 use mathlib.Core.Path.{_≡_, refl, sym, ap, ap₂, _∙_}
 use mathlib.Core.Bool.{Bool, true, false, cond}
-use mathlib.Core.List.{List, [], _∷_, _++_, append-assoc}
+use mathlib.Core.List.{List, _++_}
 use Prim.Native.Nat.{ℕ, suc, _+_, _-_, _<_, _≤_}
 use native.Mathlib.Numerals.{add-one}
 use native.Mathlib.Omega.{arith}
 use lib.Dec.{ltb}
-use lib.ListN.{length, getD, set, take, drop, replicate, length-append, length-drop, length-replicate, getD-replicate, List·getD-append}
-use lib.Seq.{paste, take-all, take-at, drop-at, take-add, drop-drop, length-take-le, getD-take, getD-drop, getD-append-add, set-at, take-suc, drop-cons, append-snoc}
+use lib.ListN.{length, getD, set, take, drop, replicate, length-append, length-drop, length-replicate}
+use lib.Seq.{paste, take-all, take-at, drop-at, take-add, drop-drop, length-take-le, getD-drop, getD-append-add, set-at, take-suc, drop-cons, append-snoc}
 use borrow.Author.Tests.{ltb-true, ltb-false}
 use Rattle.calls.specs.Move.{movedDown}
+use Rattle.calls.specs.Down.{length-kept, length-moved, moved-at, moved-new}
 
 -- a block read into a buffer and written from there is a part of the list
 pub over-block : (part block : List ℕ) (to from n : ℕ) → from + n ≤ length part → paste part to (drop 0 (paste block 0 (drop from part) n)) n ≡ paste part to (drop from part) n
@@ -64,14 +65,8 @@ abbrev pub turned : (m n i : ℕ) → List ℕ → List ℕ
 turned m n i part = take i (movedDown m n part) ++ drop i part
 
 module _ (m n : ℕ) (part : List ℕ) (l : m ≤ n) (h : n ≤ length part) where
-  moved-long : length (take (n - m) (drop m part)) ≡ n - m
-  moved-long = length-take-le (n - m) (drop m part) (simp length-drop (omega arith))
-
-  front : length (take (n - m) (drop m part) ++ replicate m 0) ≡ n
-  front = length-append (take (n - m) (drop m part)) (replicate m 0) ∙ (let zeros = length-replicate {A = ℕ} m 0 in omega (arith, moved-long))
-
   long : length (movedDown m n part) ≡ length part
-  long = length-append (take (n - m) (drop m part) ++ replicate m 0) (drop n part) ∙ (omega (arith, front, length-drop n part))
+  long = length-moved m n part l h
 
   module _ (i : ℕ) (b : i ≤ n) where
     turned-front : length (take i (movedDown m n part)) ≡ i
@@ -91,25 +86,14 @@ module _ (m n : ℕ) (part : List ℕ) (l : m ≤ n) (h : n ≤ length part) whe
   element : (i : ℕ) → i < n → cond (ltb i (n - m)) (getD part (i + m) 0) 0 ≡ getD (movedDown m n part) i 0
   element i b = go (ltb i (n - m)) refl
     where
-      outer : getD (take (n - m) (drop m part) ++ replicate m 0) i 0 ≡ getD (movedDown m n part) i 0
-      outer = sym (List·getD-append (take (n - m) (drop m part) ++ replicate m 0) (drop n part) 0 i (omega (arith, front)))
-
       go : (t : Bool) → ltb i (n - m) ≡ t → cond t (getD part (i + m) 0) 0 ≡ getD (movedDown m n part) i 0
       go true e =
-          let low = ltb-true i (n - m) e in
           let turn : i + m ≡ m + i = omega arith in
-          ap (λ (k : ℕ). getD part k 0) turn
-          ∙ sym (getD-drop m part i 0)
-          ∙ sym (getD-take (n - m) (drop m part) i 0 low)
-          ∙ sym (List·getD-append (take (n - m) (drop m part)) (replicate m 0) 0 i (omega (arith, moved-long)))
-          ∙ outer
+          ap (λ (k : ℕ). getD part k 0) turn ∙ sym (moved-at m n part l h i (ltb-true i (n - m) e))
       go false e =
           let high = ltb-false i (n - m) e in
-          let at : length (take (n - m) (drop m part)) + (i - (n - m)) ≡ i = omega (arith, moved-long) in
-          sym (getD-replicate m (i - (n - m)) 0 0 (omega arith))
-          ∙ sym (getD-append-add (take (n - m) (drop m part)) (replicate m 0) (i - (n - m)) 0)
-          ∙ ap (λ (k : ℕ). getD (take (n - m) (drop m part) ++ replicate m 0) k 0) at
-          ∙ outer
+          let at : n - m + (i - (n - m)) ≡ i = omega arith in
+          sym (moved-new m n part l h (i - (n - m)) (omega arith)) ∙ ap (λ (k : ℕ). getD (movedDown m n part) k 0) at
 
   -- an element more
   pub turned-more : (i v : ℕ) → i < n → v ≡ cond (ltb i (n - m)) (getD (turned m n i part) (i + m) 0) 0 → set (turned m n i part) i v ≡ turned m n (i + 1) part
@@ -125,3 +109,6 @@ module _ (m n : ℕ) (part : List ℕ) (l : m ≤ n) (h : n ≤ length part) whe
   -- after the last one
   pub turned-end : turned m n n part ≡ movedDown m n part
   turned-end = ap (λ (a : List ℕ). a ++ drop n part) (take-at (take (n - m) (drop m part) ++ replicate m 0) (drop n part) n front)
+    where
+      front : length (take (n - m) (drop m part) ++ replicate m 0) ≡ n
+      front = length-append (take (n - m) (drop m part)) (replicate m 0) ∙ (let zeros = length-replicate {A = ℕ} m 0 in omega (arith, length-kept m n part l h))

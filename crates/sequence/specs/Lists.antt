@@ -130,6 +130,10 @@ module _ (test : ℕ → Bool) where
   all-map f [] = refl
   all-map f (i ∷ l) = rw (all-map f l)
 
+  pub any-map : (f : ℕ → ℕ) (l : List ℕ) → any test (map f l) ≡ any (λ i. test (f i)) l
+  any-map f [] = refl
+  any-map f (i ∷ l) = rw (any-map f l)
+
   count-map-one : (i j : ℕ) (t : Bool) (l m : List ℕ) → length l ≡ length m → length (cond t (i ∷ l) l) ≡ length (cond t (j ∷ m) m)
   count-map-one i j true l m e = ap suc e
   count-map-one i j false l m e = e
@@ -164,3 +168,11 @@ module _ (test : ℕ → Bool) where
   pub false-any : (n : ℕ) → ((i : ℕ) → i < n → test i ≡ false) → any test (upTo n) ≡ false
   false-any zero h = refl
   false-any (suc n) h = rw (any-suc n, false-any n (λ i l. h i (omega arith))) (h n (omega arith))
+
+-- ---- laws: of the numbers below a sum
+pub count-split : (test : ℕ → Bool) (a b : ℕ) → count test (upTo (a + b)) ≡ count test (upTo a) + count (λ i. test (a + i)) (upTo b)
+count-split test a zero = let e : a + 0 ≡ a = omega arith in rw e (omega arith)
+count-split test a (suc b) =
+    let e : a + suc b ≡ a + b + 1 = omega arith in
+    let f : count (λ i. test (a + i)) (upTo (suc b)) ≡ count (λ i. test (a + i)) (upTo b) + cond (test (a + b)) 1 0 = ap (λ k. count (λ i. test (a + i)) (upTo k)) (sym (add-one b)) ∙ count-more (λ i. test (a + i)) b in
+    ap (λ k. count test (upTo k)) e ∙ count-more test (a + b) ∙ (omega (arith, count-split test a b, f))

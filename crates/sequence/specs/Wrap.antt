@@ -94,3 +94,24 @@ module _ (w base : ℕ) (h : base ≤ 2 ^ w) (snbase offset na : ℕ) where
           true-all inside na
           (λ j l. let m : j * offset ≤ (na - 1) * offset = mul-le-mul-right offset (omega arith) in let q = ltb-true (ahead w base snbase + (na - 1) * offset) n e in at j (omega arith) ∙ lt-ltb (ahead w base snbase + j * offset) n (omega arith))
       go false e = outside (ltb (ahead w base snbase) n) refl (ltb-false (ahead w base snbase + (na - 1) * offset) n e)
+
+-- ---- a base that moves on
+
+module _ (w base : ℕ) where
+  -- the number some positions after the number at a position
+  pub numberAt-onward : (i j : ℕ) → numberAt w (numberAt w base i) j ≡ numberAt w base (i + j)
+  numberAt-onward i j = let e : base + i + j ≡ base + (i + j) = omega arith in rw (mod-add-mod, e)
+
+  -- a number that lies no less ahead of a base than the base moves on lies by so many less ahead of the new one
+  pub ahead-onward : (by number : ℕ) → base ≤ 2 ^ w → by ≤ ahead w base number → ahead w base number ≡ by + ahead w (numberAt w base by) number
+  ahead-onward by number h l =
+      let q = ahead w base number in
+      let new = numberAt w base by in
+      let low : q - by < 2 ^ w = omega (arith, ahead-lt w base number) in
+      let small : new ≤ 2 ^ w = omega (arith, mod-lt (base + by) (pow-pos w)) in
+      let e : base + (number + (2 ^ w - base)) ≡ number + 2 ^ w = omega arith in
+      let f : by + (q - by) ≡ q = omega arith in
+      let there : numberAt w new (q - by) ≡ number % 2 ^ w = numberAt-onward by (q - by) ∙ ap (numberAt w base) f ∙ add-mod-mod base (number + (2 ^ w - base)) (2 ^ w) ∙ ap (λ k. k % 2 ^ w) e ∙ add-mod-right number (2 ^ w) in
+      let back : ahead w new (number % 2 ^ w) ≡ ahead w new number = mod-add-mod number (2 ^ w) (2 ^ w - new) in
+      let g : q - by ≡ ahead w new number = sym (ahead-numberAt w new small (q - by) low) ∙ ap (ahead w new) there ∙ back in
+      omega arith

@@ -14,7 +14,7 @@ pub part-fits : (i n p : ℕ) → i < n → i * p + p ≤ n * p
 part-fits i n p h = rw suc-mul at (mul-le-mul-right p h)
 
 -- an early part of a list, by what stands before its end
-take-drop : (at m : ℕ) (l : List ℕ) → take m (drop at l) ≡ drop at (take (at + m) l)
+pub take-drop : (at m : ℕ) (l : List ℕ) → take m (drop at l) ≡ drop at (take (at + m) l)
 take-drop zero m l = rw zero-add
 take-drop (suc at) m [] = take-nil m ∙ sym (ap (drop (suc at)) (take-nil (suc at + m)))
 take-drop (suc at) m (x ∷ l) = rw suc-add (take-drop at m l)

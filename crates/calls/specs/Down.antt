@@ -1,0 +1,33 @@
+-- Laws of a part whose first n elements move down by m. Assumes nothing.
+use mathlib.Core.Path.{_≡_, sym, ap, _∙_}
+use mathlib.Core.List.{List, _++_}
+use Prim.Native.Nat.{ℕ, _+_, _-_, _<_, _≤_}
+use native.Mathlib.Omega.{arith}
+use lib.ListN.{length, getD, take, drop, replicate, length-append, length-replicate, length-drop, List·getD-append, getD-replicate}
+use lib.Seq.{length-take-le, getD-append-add, getD-take, getD-drop}
+use Rattle.calls.specs.Move.{movedDown}
+
+module _ (m n : ℕ) (part : List ℕ) (hm : m ≤ n) (hn : n ≤ length part) where
+  -- what moves
+  abbrev pub kept : List ℕ
+  kept = take (n - m) (drop m part)
+
+  -- that is n - m elements
+  pub length-kept : length kept ≡ n - m
+  length-kept = length-take-le (n - m) (drop m part) (omega (arith, length-drop m part))
+
+  -- the part is as long as it was
+  pub length-moved : length (movedDown m n part) ≡ length part
+  length-moved = omega (arith, length-append (kept ++ replicate m 0) (drop n part), length-append kept (replicate m 0), length-kept, length-replicate {A = ℕ} m 0, length-drop n part)
+
+  -- an element that moved
+  pub moved-at : (i : ℕ) → i < n - m → getD (movedDown m n part) i 0 ≡ getD part (m + i) 0
+  moved-at i h =
+      List·getD-append (kept ++ replicate m 0) (drop n part) 0 i (omega (arith, length-append kept (replicate m 0), length-kept))
+      ∙ List·getD-append kept (replicate m 0) 0 i (omega (arith, length-kept)) ∙ getD-take (n - m) (drop m part) i 0 h ∙ getD-drop m part i 0
+
+  -- a new one
+  pub moved-new : (i : ℕ) → i < m → getD (movedDown m n part) (n - m + i) 0 ≡ 0
+  moved-new i h =
+      List·getD-append (kept ++ replicate m 0) (drop n part) 0 (n - m + i) (omega (arith, length-append kept (replicate m 0), length-kept, length-replicate {A = ℕ} m 0))
+      ∙ ap (λ k. getD (kept ++ replicate m 0) (k + i) 0) (sym length-kept) ∙ getD-append-add kept (replicate m 0) i 0 ∙ getD-replicate m i 0 0 h
