@@ -8,17 +8,27 @@ ghost use Prim.Native.Nat.{_≤_};
 
 // ---- what is sent, and what is lost
 
-// The number of a position.
+// The number of packet i of the feed.
 fn number_of(i: u8) -> u16 {
     sequence::next(side::BASE, i as u16)
 }
 
-// The positions lost on the way: a burst of four that crosses the wrap, and two alone.
-fn lost(i: u8) -> bool {
+// The packets of the first matrix lost on the way: a burst of four that crosses the wrap, and two alone.
+fn lost_first(i: u8) -> bool {
     (i == 2) | ((4 <= i) & (i <= 7)) | (i == 13)
 }
 
-// The media packet of a position: its payload starts with the sync byte and goes on in steps of its own.
+// Of the second a burst of four, of the third four at the corners of a rectangle, which parity cannot give back.
+fn lost_later(i: u8) -> bool {
+    ((20 <= i) & (i <= 23)) | (i == 32) | (i == 34) | (i == 40) | (i == 42)
+}
+
+// The packets lost on the way.
+fn lost(i: u8) -> bool {
+    lost_first(i) | lost_later(i)
+}
+
+// The media packet i of the feed: its payload starts with the sync byte and goes on in steps of its own.
 fn media_packet(i: u8) -> [u8; 200] {
     let mut packet = [0u8; 200];
     rtp::write_rtp(
@@ -39,7 +49,7 @@ fn media_packet(i: u8) -> [u8; 200] {
     packet
 }
 
-// The media packet of a position is offered, unless it is lost.
+// A media packet of the feed is offered, unless it is lost.
 fn deliver(to: Side, i: u8, lossy: bool) -> Side {
     if lossy & lost(i) {
         return to;
@@ -48,13 +58,15 @@ fn deliver(to: Side, i: u8, lossy: bool) -> Side {
     side::offer(to, side::MEDIA, &packet)
 }
 
-// All sixteen, the last first.
-fn deliver_all(to: Side, lossy: bool) -> Side {
+// The sixteen of the matrix that begins with packet `from`, the last first.
+fn deliver_all(to: Side, from: u8, lossy: bool) -> Side
+    requires { ⌜ from ≤ 64 ⌝ }
+{
     let mut v = to;
     let mut i: u8 = 16;
     while 0 < i {
         i -= 1;
-        let next = deliver(v, i, lossy);
+        let next = deliver(v, from + i, lossy);
         v = next;
     }
     v
@@ -218,6 +230,98 @@ fn print_count(equal: u8, rebuilt: u8) {
     io::write_all(STDOUT_FILENO, b"\n");
 }
 
+// ---- the feed goes on, and the window moves
+
+// How many packets of the matrix that begins with packet `from` are lost.
+fn count_lost(from: u8) -> u8
+    requires { ⌜ from ≤ 64 ⌝ }
+    ensures { λ r. ⌜ r ≤ 16 ⌝ }
+{
+    let mut missing: u8 = 0;
+    let mut i: u8 = 0;
+    while i < 16 {
+        missing += one_if(lost(from + i));
+        i += 1;
+    }
+    missing
+}
+
+// The parity packet of the column or the row that starts at a number goes from the sender to the receiver.
+fn pass_one(sender: Side, to: Side, stream: u8, start: u16) -> Side {
+    if stream == side::COLUMN {
+        let packet = side::column(sender, start, 0);
+        return side::offer(to, stream, &packet);
+    }
+    let packet = side::row(sender, start, 0);
+    side::offer(to, stream, &packet)
+}
+
+// The four columns or rows of the matrix that begins with packet `from`: they start `step` packets apart.
+fn pass_matrix(sender: Side, to: Side, from: u8, stream: u8, step: u8) -> Side
+    requires { ⌜ (from ≤ 64) × (step ≤ 4) ⌝ }
+{
+    let mut v = to;
+    let mut j: u8 = 0;
+    while j < 4 {
+        let next = pass_one(sender, v, stream, number_of(from + j * step));
+        v = next;
+        j += 1;
+    }
+    v
+}
+
+// Less, but not below 0.
+fn less(x: u64, y: u64) -> u64 {
+    if x < y { 0 } else { x - y }
+}
+
+// What became of a matrix: how many packets were lost, how many of these were rebuilt, and how many were missing when they left.
+fn print_matrix(from: u8, missing: u8, left: u64) {
+    io::write_all(STDOUT_FILENO, b"  matrix from ");
+    print_number(number_of(from));
+    io::write_all(STDOUT_FILENO, b": lost ");
+    io::print_decimal(STDOUT_FILENO, missing as u64);
+    io::write_all(STDOUT_FILENO, b", rebuilt ");
+    io::print_decimal(STDOUT_FILENO, less(left, less(16, missing as u64)));
+    io::write_all(STDOUT_FILENO, b", given up ");
+    io::print_decimal(STDOUT_FILENO, less(16, left));
+    io::write_all(STDOUT_FILENO, b"\n");
+}
+
+// The receiver's window moves on by the matrix that begins with packet `from`.
+fn move_on(to: Side, from: u8) -> Side
+    requires { ⌜ from ≤ 64 ⌝ }
+{
+    let after = side::advance(to);
+    let a = after.answer;
+    print_matrix(from, count_lost(from), answer::count(a) as u64);
+    after
+}
+
+// Both windows move on by the matrix that begins with packet `from`, and the next one is sent, lost in part, and its parity after it.
+fn next_matrix(sender: Side, to: Side, from: u8) -> Side
+    requires { ⌜ from ≤ 48 ⌝ }
+{
+    let moved = move_on(to, from);
+    let held = deliver_all(moved, from + 16, true);
+    let columns = pass_matrix(sender, held, from + 16, side::COLUMN, 1);
+    pass_matrix(sender, columns, from + 16, side::ROW, 4)
+}
+
+// Four matrices leave, one after the other.
+fn go_on(sender: Side, to: Side) {
+    let mut s = sender;
+    let mut v = to;
+    let mut from: u8 = 0;
+    while from < 64 {
+        let t = deliver_all(side::advance(s), from + 16, false);
+        s = t;
+        let next = next_matrix(s, v, from);
+        v = next;
+        from += 16;
+    }
+}
+
 // ---- the night
 
 fn print_title() {
@@ -251,8 +355,8 @@ fn print_side(side: Side) {
 
 fn main() {
     print_title();
-    let sender = deliver_all(side::open(), false);
-    let held = deliver_all(side::open(), true);
+    let sender = deliver_all(side::open(), 0, false);
+    let held = deliver_all(side::open(), 0, true);
     io::write_all(
         STDOUT_FILENO,
         b"\nBefore parity, as the packets came, the last first:\n",
@@ -271,4 +375,9 @@ fn main() {
     let last = offer_outside(all);
     let marks = last.marks;
     print_count(count_equal(sender, last), count_rebuilt(&marks));
+    io::write_all(
+        STDOUT_FILENO,
+        b"\nThe feed goes on, and the window moves by a matrix at a time:\n",
+    );
+    go_on(sender, last);
 }

@@ -214,3 +214,41 @@ pub fn row(side: Side, start: u16, sequence: u16) -> [u8; 216] {
     );
     out
 }
+
+// The window moves on by all of its positions; the answer counts the packets that left and were not lost.
+pub fn advance(side: Side) -> Side {
+    let w = side.receiver;
+    let mut media = side.media;
+    let mut timestamps = side.timestamps;
+    let mut lengths = side.lengths;
+    let mut marks = side.marks;
+    let mut parity = side.parity;
+    let mut words = side.words;
+    let mut out = [0u8; 3200];
+    let mut sizes = [0u16; 16];
+    let step = w.advance(
+        16,
+        &mut media,
+        &mut timestamps,
+        &mut lengths,
+        &mut marks,
+        &mut parity,
+        &mut words,
+        RECORDS,
+        RECORDS,
+        &mut out,
+        &mut sizes,
+    );
+    let answer = step.answer;
+    let receiver = step.receiver;
+    Side {
+        media,
+        timestamps,
+        lengths,
+        marks,
+        parity,
+        words,
+        answer,
+        receiver,
+    }
+}

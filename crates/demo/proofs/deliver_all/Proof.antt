@@ -5,16 +5,19 @@ use Rattle.demo.proofs.deliver_all.Statement.{statement}
 use Rattle.demo.proofs.deliver_all.Tie as tie
 
 abbrev Inv-loop : tie.InvT-loop
-Inv-loop lossy v₀ i₀ v i = i ≤ 16
+Inv-loop from lossy v₀ i₀ v i = i ≤ 16
 
 abbrev μ-loop : tie.MeasureT-loop
-μ-loop lossy v₀ i₀ v i = i
+μ-loop from lossy v₀ i₀ v i = i
 
 loop-holds : tie.Need-loop-holds Inv-loop μ-loop
 loop-holds c = search needs
 
 sub-i : tie.Need-sub-i Inv-loop μ-loop
 sub-i c = search needs
+
+add-deliver : tie.Need-add-deliver Inv-loop μ-loop
+add-deliver c = search needs
 
 deliver-requires : tie.Need-deliver-requires Inv-loop μ-loop
 deliver-requires c κs = search needs
@@ -31,4 +34,4 @@ returns c = search needs
 pub deliver-all-spec : {M : Type 1} → statement M
 deliver-all-spec =
     tie.close
-    (tie.spec Inv-loop μ-loop loop-holds sub-i deliver-requires loop-less loop-again returns)
+    (tie.spec Inv-loop μ-loop loop-holds sub-i add-deliver deliver-requires loop-less loop-again returns)
