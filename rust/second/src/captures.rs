@@ -107,7 +107,7 @@ impl Capture {
     }
 
     /// Which entries are lost: at a rate, in bursts, media alone or parity too.
-    fn draw_losses(&self, rng: &mut Rng) -> Vec<bool> {
+    pub fn draw_losses(&self, rng: &mut Rng) -> Vec<bool> {
         let highest = rng.pick(&[50, 150, 300]);
         let rate_of_media = rng.between(10, highest);
         let rate_of_parity = rng.pick(&[0, 0, rate_of_media, 300]);

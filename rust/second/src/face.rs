@@ -1,4 +1,4 @@
-//! The library's C face, as include/congaveil.h declares it, and thin safe wrappers around the thirteen calls.
+//! The library's C face, as include/congaveil.h declares it, and thin safe wrappers around the fourteen calls.
 
 use crate::capture::Content;
 use crate::model::{Answer, Record, Stamp, Window};
@@ -194,6 +194,16 @@ declare!(
     [out: *mut u8, out_len: usize]
 );
 
+declare!(
+    cgv_move,
+    [w: CWindow, by: usize],
+    *mut u8,
+    *mut u32,
+    *mut u16,
+    *mut CRecord,
+    [out: *mut u8, out_len: usize, sizes: *mut u16, sizes_len: usize]
+);
+
 extern "C" {
     fn cgv_capture_read(r: Reader, piece: *const u8, len: usize) -> Reading;
     fn cgv_capture_header(front: *const u8, len: usize) -> Header;
@@ -296,11 +306,11 @@ fn from_c(answer: CAnswer) -> Answer {
 
 /// Calls with the six parts. Pointers and lengths come from slices that are borrowed for the call and do not overlap.
 macro_rules! with_store {
-    ($name:ident, [$($before:expr),*], $s:expr, mut) => {
+    ($name:ident, [$($before:expr),*], $s:expr, mut $(, $after:expr)*) => {
         from_c(unsafe {
             $name($($before,)* $s.media.as_mut_ptr(), $s.media.len(), $s.timestamps.as_mut_ptr(), $s.timestamps.len(),
                 $s.lengths.as_mut_ptr(), $s.lengths.len(), $s.marks.as_mut_ptr(), $s.marks.len(), $s.parity.as_mut_ptr(), $s.parity.len(),
-                $s.records.as_mut_ptr().cast(), $s.records.len())
+                $s.records.as_mut_ptr().cast(), $s.records.len() $(, $after)*)
         })
     };
     ($name:ident, [$($before:expr),*], $s:expr, $out:expr) => {
@@ -340,6 +350,11 @@ pub fn write_column(w: Window, snbase: u16, stamp: Stamp, s: &Lent, out: &mut [u
 
 pub fn write_row(w: Window, snbase: u16, stamp: Stamp, s: &Lent, out: &mut [u8]) -> Answer {
     with_store!(cgv_write_row, [to_c(&w), snbase, stamp.sequence, stamp.timestamp, stamp.ssrc], s, out)
+}
+
+/// Advances the base; named so because `move` is a word of Rust's.
+pub fn advance(w: Window, by: u64, s: &mut Lent, out: &mut [u8], sizes: &mut [u16]) -> Answer {
+    with_store!(cgv_move, [to_c(&w), by as usize], s, mut, out.as_mut_ptr(), out.len(), sizes.as_mut_ptr(), sizes.len())
 }
 
 /// A further piece of a capture file.
@@ -427,6 +442,7 @@ pub fn anew<T>(lent: &[T]) -> &[T] {
 }
 
 /// A window of the library with a store of its own, for the parts that look at the library alone.
+#[derive(Clone)]
 pub struct Receiver {
     pub window: Window,
     pub media: Vec<u8>,
@@ -481,6 +497,19 @@ impl Receiver {
         answer
     }
 
+    /// Advances the base: the packets that left, nothing where one was lost, or what was wrong.
+    pub fn advance(&mut self, by: u64) -> Result<Vec<Option<Vec<u8>>>, String> {
+        let w = self.window;
+        let mut out = vec![0x5A; by as usize * (12 + w.p as usize)];
+        let mut sizes = vec![0x5A5A; by as usize];
+        let answer = advance(w, by, &mut self.lend(), &mut out, &mut sizes);
+        self.window = answer.window;
+        if answer.number != 0 || answer.spoilt != 0 || answer.window.base != w.base.wrapping_add(by as u16) {
+            return Err(format!("moving by {by} was answered {answer:?}, before it {w:?}"));
+        }
+        slots(answer.count, &out, &sizes)
+    }
+
     /// A packet as it is read out, or the number of the refusal.
     pub fn read(&mut self, number: u16) -> Result<Vec<u8>, u32> {
         let w = self.window;
@@ -499,6 +528,23 @@ impl Receiver {
         };
         written(answer, out)
     }
+}
+
+/// The packets that left, each with the length given for it, and nothing where it is 0. In a slot, zeros follow the packet.
+fn slots(count: u64, out: &[u8], sizes: &[u16]) -> Result<Vec<Option<Vec<u8>>>, String> {
+    let slot = out.len() / sizes.len();
+    let mut packets = Vec::new();
+    for (bytes, &size) in out.chunks(slot).zip(sizes) {
+        let (packet, rest) = bytes.split_at(usize::from(size).min(slot));
+        if usize::from(size) > slot || rest.iter().any(|&byte| byte != 0) {
+            return Err(format!("slot {} has size {size}, or bytes past it", packets.len()));
+        }
+        packets.push(if size == 0 { None } else { Some(packet.to_vec()) });
+    }
+    if count != packets.iter().flatten().count() as u64 {
+        return Err(format!("{count} packets are counted, and the slots have others"));
+    }
+    Ok(packets)
 }
 
 /// As many bytes as the answer says. Past them the output is as it was, or more is given than any packet has.

@@ -1,5 +1,5 @@
-//! A second program for document 01 and requests 1, 2 and 4 of document 02, run against the library: random traffic, brute
-//! force on small windows, real captures, capture files, senders.
+//! A second program for document 01 and requests 1, 2, 4 and 5 of document 02, run against the library: random traffic, brute
+//! force on small windows, real captures, capture files, senders, windows that move.
 //!
 //! `second` runs a fixed seeded set, `second --seed S` takes one seed again, `second --seconds N [--seed S]` is the long run, which
 //! takes the seeds from S onward. `second --replay PROGRAM [--seed S]` runs the program that replays a capture file, on files of
@@ -11,7 +11,9 @@ mod captures;
 mod face;
 mod files;
 mod model;
+mod moving;
 mod pair;
+mod passing;
 mod received;
 mod replays;
 mod resent;
@@ -31,15 +33,24 @@ use std::time::{Duration, Instant};
 const WINDOWS: u64 = 80_000;
 const LISTS: u64 = 20_000;
 const PATTERNS: u64 = 250;
+const MOVING_LISTS: u64 = 4_000;
+const PASSES: u64 = 100;
 /// After so many windows comes the content of a capture file, and after so many a sender. In turns a wrong copy of any is found early.
 const WINDOWS_A_CONTENT: u64 = 16;
 const WINDOWS_A_SENDER: u64 = 50;
 /// And one that counts past 65,536: twelve in all, each of six small profiles with each arrangement.
 const WINDOWS_A_LONG_SENDER: u64 = 6_600;
+/// And a window that moves until its numbers have wrapped two to four times.
+const WINDOWS_A_LONG_MOVE: u64 = 10_000;
 
-/// Each number, each kind of spoilt rebuild, and each limit and breach of a capture file must be met so often in the run without
-/// arguments.
+/// Each number, each kind of spoilt rebuild and of move, and each limit and breach of a capture file must be met so often in the run
+/// without arguments.
 const LEAST: u64 = 100;
+
+/// The numbers that a call on a window can answer.
+fn numbers() -> impl Iterator<Item = usize> {
+    (0..=17).chain([22])
+}
 
 /// How often each was met, in one line.
 fn times<T: std::fmt::Display>(met: &[(T, u64)]) -> String {
@@ -50,7 +61,10 @@ fn times<T: std::fmt::Display>(met: &[(T, u64)]) -> String {
 struct Run {
     traffic: pair::Tally,
     stopping: stopping::Tally,
+    moving: stopping::Tally,
+    far: u64,
     captures: captures::Tally,
+    passing: passing::Tally,
     /// The captures, or why they cannot be read: that shows when their turn comes, after the reader of capture files was compared.
     files: Result<Vec<captures::Capture>, String>,
     contents: files::Tally,
@@ -65,7 +79,10 @@ impl Run {
         Run {
             traffic: Default::default(),
             stopping: Default::default(),
+            moving: Default::default(),
+            far: 0,
             captures,
+            passing: Default::default(),
             files,
             contents: Default::default(),
             sending: Default::default(),
@@ -83,6 +100,26 @@ impl Run {
 
     fn list(&mut self, seed: u64) -> Result<(), String> {
         stopping::run(seed, &mut self.stopping).map_err(|text| format!("DIFFERENCE in a small window, seed {seed}: {text}"))
+    }
+
+    fn long_move(&mut self, seed: u64) -> Result<(), String> {
+        let before = self.traffic.calls;
+        self.far += 1;
+        traffic::run_long(seed, &mut self.traffic).map_err(|text| {
+            let calls = self.traffic.calls;
+            format!("DIFFERENCE in a long move, seed {seed} (call {calls} of this run, {} of its window): {text}", calls - before)
+        })
+    }
+
+    fn moving_list(&mut self, seed: u64) -> Result<(), String> {
+        stopping::run_moving(seed, &mut self.moving).map_err(|text| format!("DIFFERENCE in a small window that moves, seed {seed}: {text}"))
+    }
+
+    fn pass(&mut self, seed: u64) -> Result<(), String> {
+        for file in self.files.as_ref().map_err(String::clone)? {
+            passing::run(file, seed, &mut self.passing).map_err(|text| format!("DIFFERENCE in a capture passing, seed {seed}: {text}"))?;
+        }
+        Ok(())
     }
 
     fn pattern(&mut self, seed: u64) -> Result<(), String> {
@@ -113,7 +150,7 @@ impl Run {
 
     fn print(&self) {
         let t = &self.traffic;
-        let numbers: Vec<(usize, u64)> = t.numbers.into_iter().enumerate().collect();
+        let numbers: Vec<(usize, u64)> = numbers().map(|number| (number, t.numbers[number])).collect();
         println!(
             "traffic: {} windows of {} profiles, {} calls compared, answered {}; {} packets rebuilt; 0 differences",
             t.windows,
@@ -144,8 +181,48 @@ impl Run {
             c.compared,
             format_args!("{} offered to a full table; 0 wrong", c.full)
         );
+        self.print_moves();
         self.print_files();
         self.print_senders();
+    }
+
+    fn print_moves(&self) {
+        let m = &self.traffic.moves;
+        println!(
+            "moves: {} in the traffic, {} windows through several wraps; {} packets written, {} lost, {} records released, {} kept; 0 differences",
+            m.done, self.far, m.written, m.lost, m.released, m.kept
+        );
+        println!("  {}", times(&self.kinds_of_moves()));
+        let s = &self.moving;
+        println!(
+            "  small windows: {} lists of {} offers between {} moves, {} packets lost, {} rebuilt, {} lists with a part left missing, {}",
+            s.lists,
+            s.offers,
+            s.moves,
+            s.lost,
+            s.rebuilt,
+            s.partly,
+            format_args!("{} with parity in hand, which {} needed; {} packets written; 0 wrong", s.in_hand, s.by_it, s.written)
+        );
+        let c = &self.passing;
+        println!(
+            "  captures in full: {} passes, {} offers, {} moves, {} packets written, {} lost, {} rebuilt, {} given up, {}",
+            c.passes,
+            c.offers,
+            c.moves,
+            c.written,
+            c.lost,
+            c.rebuilt,
+            c.given_up,
+            format_args!(
+                "{} passes without loss in the end; {} offers behind the base, {} to a full table; 0 wrong",
+                c.whole, c.late, c.full
+            )
+        );
+    }
+
+    fn kinds_of_moves(&self) -> Vec<(&'static str, u64)> {
+        pair::KINDS.iter().map(|&kind| (kind, self.traffic.moves.kinds.get(kind).copied().unwrap_or(0))).collect()
     }
 
     fn print_files(&self) {
@@ -193,13 +270,22 @@ impl Run {
             if seed % WINDOWS_A_LONG_SENDER == 0 {
                 self.long_sender(seed / WINDOWS_A_LONG_SENDER)?;
             }
+            if seed % WINDOWS_A_LONG_MOVE == 0 {
+                self.long_move(seed / WINDOWS_A_LONG_MOVE)?;
+            }
         }
         self.resend()?;
         for seed in 1..=LISTS {
             self.list(seed)?;
         }
+        for seed in 1..=MOVING_LISTS {
+            self.moving_list(seed)?;
+        }
         for seed in 1..=PATTERNS {
             self.pattern(seed)?;
+        }
+        for seed in 1..=PASSES {
+            self.pass(seed)?;
         }
         self.print();
         self.enough()
@@ -216,8 +302,15 @@ impl Run {
         if self.sending.profiles.len() != 2 * traffic::profiles().len() {
             return Err("not every profile was met by senders with both arrangements".to_string());
         }
+        if let Some((name, _)) = self.kinds_of_moves().into_iter().find(|&(_, times)| times < LEAST) {
+            return Err(format!("of moves, {name} was met fewer than {LEAST} times"));
+        }
+        let (s, c) = (&self.moving, &self.passing);
+        if [s.by_it, s.partly, c.rebuilt, c.given_up, c.whole, c.late, c.full].iter().any(|&times| times < LEAST) {
+            return Err(format!("a kind of list between moves, or of passing capture, was met fewer than {LEAST} times"));
+        }
         let x = self.traffic.spoilt;
-        match self.traffic.numbers.iter().position(|&times| times < LEAST) {
+        match numbers().find(|&number| self.traffic.numbers[number] < LEAST) {
             Some(number) => Err(format!("number {number} was met fewer than {LEAST} times")),
             None if [x.offered, x.in_hand, x.several, x.passed, self.captures.short].iter().any(|&times| times < LEAST) => {
                 Err(format!("a kind of spoilt rebuild, or a short packet of a capture, was met fewer than {LEAST} times"))
@@ -236,6 +329,9 @@ impl Run {
             self.content(seed),
             self.sender(seed),
             self.long_sender(seed),
+            self.long_move(seed),
+            self.moving_list(seed),
+            self.pass(seed),
             self.resend(),
         ];
         let faults: Vec<String> = results.into_iter().filter_map(Result::err).collect();
@@ -260,12 +356,17 @@ impl Run {
             for i in 0..50 {
                 self.list(first.wrapping_add(round * 50 + i))?;
             }
+            for i in 0..20 {
+                self.moving_list(first.wrapping_add(round * 20 + i))?;
+            }
             self.pattern(first.wrapping_add(round))?;
+            self.pass(first.wrapping_add(round))?;
             for i in 0..8 {
                 self.sender(first.wrapping_add(round * 8 + i))?;
             }
             if round % 16 == 0 {
                 self.long_sender(first.wrapping_add(round / 16))?;
+                self.long_move(first.wrapping_add(round / 16))?;
             }
             round += 1;
         }

@@ -1,4 +1,5 @@
-//! The second program: document 01 and request 1 of document 02 read once more and written down in the plainest way.
+//! The second program: document 01 and request 1 of document 02 read once more and written down in the plainest way. Request 5 has
+//! a file of its own, moving.rs.
 //!
 //! Nothing here is clever. Every call looks at everything afresh, all arithmetic is in 64 bits, and a group is a list of
 //! numbers. Judging only reads the store; a call writes to it after the last refusal has been ruled out.
@@ -94,7 +95,7 @@ pub struct Stamp {
     pub ssrc: u32,
 }
 
-fn refuse(number: u32, window: Window) -> Answer {
+pub fn refuse(number: u32, window: Window) -> Answer {
     Answer { number, count: 0, spoilt: 0, window }
 }
 
@@ -110,7 +111,7 @@ pub fn no_if(condition: bool, number: u32) -> Result<(), u32> {
 // ---- numbers, positions and groups ----
 
 /// The distance of a number ahead of the base, with 16-bit wrap.
-fn position(w: &Window, number: u16) -> u64 {
+pub fn position(w: &Window, number: u16) -> u64 {
     (u64::from(number) + 65_536 - u64::from(w.base)) % 65_536
 }
 
@@ -131,7 +132,7 @@ fn na(w: &Window, stream: u8) -> u64 {
 }
 
 /// The numbers of a group.
-fn group(w: &Window, stream: u8, snbase: u16) -> Vec<u16> {
+pub fn group(w: &Window, stream: u8, snbase: u16) -> Vec<u16> {
     (0..na(w, stream)).map(|j| ((u64::from(snbase) + j * offset(w, stream)) % 65_536) as u16).collect()
 }
 
@@ -218,7 +219,7 @@ pub fn check_numbers(w: &Window) -> Result<(), u32> {
     no_if(w.n < w.l * w.d || w.n > 400 || w.k < 1 || w.k > 128, 3)
 }
 
-fn check_room(w: &Window, s: &Store) -> Result<(), u32> {
+pub fn check_room(w: &Window, s: &Store) -> Result<(), u32> {
     no_if((s.media.len() as u64) < w.n * w.p, 4)?;
     no_if((s.timestamps.len() as u64) < w.n, 4)?;
     no_if((s.lengths.len() as u64) < w.n, 4)?;
@@ -227,7 +228,7 @@ fn check_room(w: &Window, s: &Store) -> Result<(), u32> {
     no_if((s.records.len() as u64) < w.k, 4)
 }
 
-fn check_order(w: &Window, s: &Store) -> Result<(), u32> {
+pub fn check_order(w: &Window, s: &Store) -> Result<(), u32> {
     let marks = &s.marks[..w.n as usize];
     let records = &s.records[..w.k as usize];
     no_if(marks.iter().any(|&mark| mark > 1), 5)?;
@@ -377,7 +378,7 @@ fn rebuild(w: &Window, s: &mut Store, places: &[usize], lost: usize, recovery: &
     true
 }
 
-fn release(w: &Window, s: &mut Store, i: usize) {
+pub fn release(w: &Window, s: &mut Store, i: usize) {
     s.records[i] = Record::default();
     place_mut(s.parity, w, i).fill(0);
 }
@@ -421,7 +422,7 @@ fn settle(w: &Window, s: &mut Store) -> (u64, u64) {
 }
 
 /// The next window value has its counts from the marks and records themselves.
-fn recount(w: Window, s: &Store) -> Window {
+pub fn recount(w: Window, s: &Store) -> Window {
     let present = s.marks[..w.n as usize].iter().filter(|&&mark| mark == 1).count() as u64;
     let in_use = s.records[..w.k as usize].iter().filter(|record| record.in_use == 1).count() as u64;
     Window { present, in_use, ..w }

@@ -2,7 +2,9 @@
 
 use crate::face::{self, RawRecord, RECORD};
 use crate::model::{self, Answer, Record, Stamp, Window};
+use crate::moving;
 use crate::rng::Rng;
+use std::collections::BTreeMap;
 
 #[derive(Clone, Debug)]
 pub enum Call {
@@ -13,6 +15,8 @@ pub enum Call {
     Read(u16),
     WriteColumn(u16, Stamp),
     WriteRow(u16, Stamp),
+    /// By so many positions.
+    Move(u64),
 }
 
 /// How much of each part is lent, in elements.
@@ -25,6 +29,9 @@ pub struct Sizes {
     pub parity: usize,
     pub records: usize,
     pub out: usize,
+    /// Of a move: the output, in bytes, and the numbers beside it.
+    pub slots: usize,
+    pub lefts: usize,
 }
 
 /// What was met so far.
@@ -32,9 +39,11 @@ pub struct Sizes {
 pub struct Tally {
     pub windows: u64,
     pub calls: u64,
-    pub numbers: [u64; 18],
+    /// By the number answered; 18 to 21 are no number of these calls.
+    pub numbers: [u64; 23],
     pub rebuilt: u64,
     pub spoilt: Spoilt,
+    pub moves: Moves,
     pub profiles: std::collections::BTreeSet<(u64, u64)>,
 }
 
@@ -70,6 +79,92 @@ impl Spoilt {
     }
 }
 
+/// How moves were met.
+#[derive(Clone, Debug, Default, PartialEq, Eq)]
+pub struct Moves {
+    pub done: u64,
+    pub written: u64,
+    pub lost: u64,
+    pub released: u64,
+    pub kept: u64,
+    /// How often each kind was met.
+    pub kinds: BTreeMap<&'static str, u64>,
+}
+
+/// The kinds of moves, done and refused, that a run has to meet.
+pub const KINDS: [&str; 21] = [
+    "by 1",
+    "by L x D",
+    "by n",
+    "by another number",
+    "over the wrap",
+    "records released",
+    "records kept",
+    "both",
+    "old bytes moved",
+    "longer outputs",
+    "refused with 1",
+    "refused with 2",
+    "refused with 3",
+    "refused with 4",
+    "refused with 5",
+    "22 for 0",
+    "22 for n + 1",
+    "22 for a number past 65,535",
+    "22 with short outputs",
+    "output short by a byte",
+    "sizes short by one",
+];
+
+impl Moves {
+    fn met(&mut self, kind: &'static str, is: bool) {
+        if is {
+            *self.kinds.entry(kind).or_default() += 1;
+        }
+    }
+
+    /// Counts a move by its answer; `old` says whether a missing position that stayed had old bytes.
+    fn count(&mut self, w: Window, by: u64, lent: Sizes, old: bool, answer: Answer) {
+        let (out, sizes) = (lent.slots as u64, lent.lefts as u64);
+        let need = || by * (12 + w.p);
+        match answer.number {
+            0 => {
+                let (released, kept) = (w.in_use - answer.window.in_use, answer.window.in_use);
+                self.done += 1;
+                self.written += answer.count;
+                self.lost += by - answer.count;
+                self.released += released;
+                self.kept += kept;
+                self.met("by 1", by == 1);
+                self.met("by L x D", by == w.l * w.d);
+                self.met("by n", by == w.n);
+                self.met("by another number", by != 1 && by != w.l * w.d && by != w.n);
+                self.met("over the wrap", answer.window.base < w.base);
+                self.met("records released", released > 0);
+                self.met("records kept", kept > 0);
+                self.met("both", released > 0 && kept > 0);
+                self.met("old bytes moved", old);
+                self.met("longer outputs", out > need() && sizes > by);
+            }
+            22 => {
+                self.met("22 for 0", by == 0);
+                self.met("22 for n + 1", by == w.n + 1);
+                self.met("22 for a number past 65,535", by > 65_535);
+                self.met("22 with short outputs", out / (12 + w.p) < by || sizes < by);
+            }
+            4 => {
+                self.met("refused with 4", true);
+                self.met("output short by a byte", out + 1 == need() && sizes >= by);
+                self.met("sizes short by one", out >= need() && sizes + 1 == by);
+            }
+            1 => self.met("refused with 1", true),
+            2 => self.met("refused with 2", true),
+            3 => self.met("refused with 3", true),
+            _ => self.met("refused with 5", true),
+        }
+    }
+}
+
 /// One store for each program. The parts are longer than what is lent, so that bytes past a lent part are compared too.
 pub struct Pair {
     media: [Vec<u8>; 2],
@@ -81,6 +176,8 @@ pub struct Pair {
     raw: Vec<RawRecord>,
     raw_before: Vec<RawRecord>,
     out: [Vec<u8>; 2],
+    slots: [Vec<u8>; 2],
+    lefts: [Vec<u16>; 2],
 }
 
 impl Pair {
@@ -108,6 +205,8 @@ impl Pair {
             raw_before: raw.clone(),
             raw,
             out: [vec![0; size.out], vec![0; size.out]],
+            slots: [vec![0; size.slots], vec![0; size.slots]],
+            lefts: [vec![0; size.lefts], vec![0; size.lefts]],
         }
     }
 
@@ -120,6 +219,8 @@ impl Pair {
             parity: self.parity[0].len(),
             records: self.records.len(),
             out: self.out[0].len(),
+            slots: self.slots[0].len(),
+            lefts: self.lefts[0].len(),
         }
     }
 
@@ -179,12 +280,19 @@ impl Pair {
         if writes_out {
             self.out.iter_mut().for_each(|out| out.fill(filler));
         }
+        let by = if let Call::Move(by) = call { Some(*by) } else { None };
+        let old_bytes = by.map_or(false, |by| self.old_bytes(&w, by, &lent));
+        if by.is_some() {
+            self.noise(filler);
+        }
         let ours = self.run_model(w, call, lent);
         let (theirs, datagram_kept) = self.run_product(w, call, lent);
         tally.calls += 1;
-        if ours == theirs && ours.number < 18 {
+        if ours == theirs && (ours.number as usize) < tally.numbers.len() {
             tally.numbers[ours.number as usize] += 1;
-            if !writes_out {
+            if let Some(by) = by {
+                tally.moves.count(w, by, lent, old_bytes, ours);
+            } else if !writes_out {
                 tally.rebuilt += ours.count;
                 tally.spoilt.count(matches!(call, Call::Media(_)), w, ours);
             }
@@ -202,6 +310,10 @@ impl Pair {
         first_difference("marks", &self.marks, &mut faults);
         first_difference("parity", &self.parity, &mut faults);
         first_difference("output", &self.out, &mut faults);
+        if by.is_some() {
+            first_difference("slots", &self.slots, &mut faults);
+            first_difference("sizes", &self.lefts, &mut faults);
+        }
         for i in 0..self.records.len() {
             if self.records[i] != self.raw[i].get() {
                 faults.push(format!("record {i}: model {:?}, library {:?}", self.records[i], self.raw[i].get()));
@@ -223,6 +335,26 @@ impl Pair {
         Err(text)
     }
 
+    /// Fills both outputs of a move with the same noise.
+    fn noise(&mut self, seed: u8) {
+        let mut rng = Rng::new(u64::from(seed), 13);
+        rng.fill(&mut self.slots[0]);
+        self.lefts[0].fill_with(|| rng.next() as u16);
+        let [slots, same_slots] = &mut self.slots;
+        same_slots.copy_from_slice(slots);
+        let [lefts, same_lefts] = &mut self.lefts;
+        same_lefts.copy_from_slice(lefts);
+    }
+
+    /// Whether a missing position that a move would keep has bytes other than zeros.
+    fn old_bytes(&self, w: &Window, by: u64, lent: &Sizes) -> bool {
+        let (n, p) = (w.n.min(lent.marks as u64), w.p.min(1428) as usize);
+        (by.min(n) as usize..n as usize).any(|i| {
+            let payload = self.media[0].get(i * p..(i + 1) * p);
+            self.marks[0][i] == 0 && payload.map_or(false, |payload| payload.iter().any(|&byte| byte != 0))
+        })
+    }
+
     fn run_model(&mut self, w: Window, call: &Call, lent: Sizes) -> Answer {
         let mut s = model::Store {
             media: &mut self.media[0][..lent.media],
@@ -241,6 +373,7 @@ impl Pair {
             Call::Read(number) => model::read(w, *number, &s, out),
             Call::WriteColumn(snbase, stamp) => model::write_column(w, *snbase, *stamp, &s, out),
             Call::WriteRow(snbase, stamp) => model::write_row(w, *snbase, *stamp, &s, out),
+            Call::Move(by) => moving::advance(w, *by, &mut s, &mut self.slots[0][..lent.slots], &mut self.lefts[0][..lent.lefts]),
         }
     }
 
@@ -268,6 +401,7 @@ impl Pair {
             Call::Read(number) => face::read(w, *number, &s, out),
             Call::WriteColumn(snbase, stamp) => face::write_column(w, *snbase, *stamp, &s, out),
             Call::WriteRow(snbase, stamp) => face::write_row(w, *snbase, *stamp, &s, out),
+            Call::Move(by) => face::advance(w, *by, &mut s, &mut self.slots[1][..lent.slots], &mut self.lefts[1][..lent.lefts]),
         };
         (answer, true)
     }

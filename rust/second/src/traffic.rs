@@ -4,6 +4,7 @@ use crate::model::{Record, Stamp, Window, COLUMN, ROW};
 use crate::pair::{Call, Pair, Sizes, Tally};
 use crate::rng::Rng;
 use crate::wire::{unit, Stretch};
+use std::collections::VecDeque;
 
 /// Elements past the longest part that is ever lent.
 const GUARD: usize = 16;
@@ -31,6 +32,8 @@ struct Mood {
     short: u64,
     lies: u64,
     repeats: u64,
+    /// Before an offer, while moves are left.
+    moves: u64,
     /// Old bytes stand wherever nothing is kept, from the opening on.
     dirty: bool,
     /// Every offer is an unaltered packet of the stretch, and nobody else writes the store.
@@ -49,6 +52,10 @@ struct Play<'a> {
     stuck: u32,
     step: u64,
     started: bool,
+    /// How many moves may still be done.
+    moves_left: u64,
+    /// By how much the stretch has moved since the offers were drawn.
+    moved: u64,
     tally: &'a mut Tally,
 }
 
@@ -69,17 +76,7 @@ pub fn run(seed: u64, tally: &mut Tally) -> Result<(), String> {
     let asked = if knotted { draw_knotted_window(&mut rng) } else { draw_window(seed, &mut rng) };
     tally.windows += 1;
     tally.profiles.insert((asked.l, asked.d));
-    let (n, k, p) = (asked.n as usize, asked.k as usize, asked.p as usize);
     let slack = rng.pick(&[0, 0, 1, 3, 20]);
-    let size = Sizes {
-        media: n * p + slack * p + slack % 3 + GUARD,
-        timestamps: n + slack + GUARD,
-        lengths: n + slack + GUARD,
-        marks: n + slack + GUARD,
-        parity: k * p + slack * p + slack % 3 + GUARD,
-        records: k + slack + GUARD,
-        out: 28 + p + 64,
-    };
     let calm = rng.chance(250);
     let lies = if knotted { 1000 } else { rng.pick(&[0, 0, 100, 600, 1000]) };
     let unaltered = calm && lies == 0;
@@ -89,19 +86,32 @@ pub fn run(seed: u64, tally: &mut Tally) -> Result<(), String> {
         short: if calm { 0 } else { rng.pick(&[0, 5, 20]) },
         lies,
         repeats: rng.pick(&[0, 50, 300]),
+        moves: rng.pick(&[10, 40, 150]),
         dirty: !unaltered && rng.chance(500),
         unaltered,
     };
-    let stretch = Stretch::draw(&mut rng, asked.base, asked.l as usize, asked.d as usize, p, n);
-    let pair = Pair::new(&mut rng, size);
-    let (window, window_before) = (Window::default(), Window::default());
-    let list = if knotted { knot(&mut rng, &stretch) } else { offers(&mut rng, &stretch, mood.lies, mood.repeats) };
-    let mut play =
-        Play { rng, mood, asked, window, stretch, pair, undo: Vec::new(), window_before, stuck: 0, step: 0, started: false, tally };
-    match play.whole(list) {
-        Ok(()) => Ok(()),
-        Err(text) => Err(format!("step {}\n{text}", play.step)),
-    }
+    let moves_left = rng.pick(&[0, 0, 0, 0, 1, 2, 4, 8]);
+    let mut play = Play::new(rng, mood, asked, slack, moves_left, tally);
+    let (rng, stretch) = (&mut play.rng, &play.stretch);
+    let list = if knotted { knot(rng, stretch) } else { offers(rng, stretch, play.mood.lies, play.mood.repeats) };
+    let result = play.whole(list);
+    result.map_err(|text| format!("step {}\n{text}", play.step))
+}
+
+/// Runs a window that moves until its numbers have wrapped two to four times, with few packets between two moves. All of them are
+/// unaltered.
+pub fn run_long(seed: u64, tally: &mut Tally) -> Result<(), String> {
+    let mut rng = Rng::new(seed, 8);
+    let (l, d) = rng.pick(&[(1, 4), (4, 4), (5, 5), (20, 5), (10, 10), (4, 20)]);
+    let matrix = l * d;
+    let n = [400, matrix, 2 * matrix, matrix + rng.below(l)][(seed % 4) as usize];
+    let base = rng.next() as u16;
+    let asked =
+        Window { base, ssrc: rng.next() as u32, l, d, p: rng.pick(&[188, 204, 376]), n, k: rng.between(1, 24), present: 0, in_use: 0 };
+    let mood = Mood { disturb: 0, made_up: 0, short: 0, lies: 0, repeats: 0, moves: 0, dirty: false, unaltered: true };
+    let mut play = Play::new(rng, mood, asked, 0, u64::MAX, tally);
+    let result = play.far(65_536 * (2 + seed % 3));
+    result.map_err(|text| format!("step {}\n{text}", play.step))
 }
 
 fn draw_window(seed: u64, rng: &mut Rng) -> Window {
@@ -433,7 +443,40 @@ fn on_port(port: u8, datagram: Vec<u8>) -> Call {
     }
 }
 
-impl Play<'_> {
+impl<'a> Play<'a> {
+    fn new(mut rng: Rng, mood: Mood, asked: Window, slack: usize, moves_left: u64, tally: &'a mut Tally) -> Play<'a> {
+        let (n, k, p) = (asked.n as usize, asked.k as usize, asked.p as usize);
+        let size = Sizes {
+            media: n * p + slack * p + slack % 3 + GUARD,
+            timestamps: n + slack + GUARD,
+            lengths: n + slack + GUARD,
+            marks: n + slack + GUARD,
+            parity: k * p + slack * p + slack % 3 + GUARD,
+            records: k + slack + GUARD,
+            out: 28 + p + 64,
+            slots: (n + slack) * (12 + p) + slack % 3 + GUARD,
+            lefts: n + slack + GUARD,
+        };
+        let stretch = Stretch::draw(&mut rng, asked.base, asked.l as usize, asked.d as usize, p, n);
+        let pair = Pair::new(&mut rng, size);
+        Play {
+            rng,
+            mood,
+            asked,
+            window: Window::default(),
+            stretch,
+            pair,
+            undo: Vec::new(),
+            window_before: Window::default(),
+            stuck: 0,
+            step: 0,
+            started: false,
+            moves_left,
+            moved: 0,
+            tally,
+        }
+    }
+
     fn whole(&mut self, list: Vec<(u8, Vec<u8>)>) -> Result<(), String> {
         while self.rng.chance(200) {
             self.refused_opening()?;
@@ -449,16 +492,103 @@ impl Play<'_> {
             }
             self.undo.clear();
         }
-        for (port, datagram) in list {
+        let mut list = VecDeque::from(list);
+        while !list.is_empty() {
             while self.rng.chance(self.mood.disturb) {
                 self.disturb()?;
             }
-            self.call(on_port(port, datagram))?;
+            if self.moves_left > 0 && self.rng.chance(self.mood.moves) {
+                self.advance()?;
+            }
+            if self.moved > 0 {
+                list = self.after_a_move(list);
+            }
+            if let Some((port, datagram)) = list.pop_front() {
+                self.call(on_port(port, datagram))?;
+            }
         }
         for _ in 0..self.rng.below(6) {
             self.look()?;
         }
         Ok(())
+    }
+
+    /// Moves the window so far, most of the time by much.
+    fn far(&mut self, distance: u64) -> Result<(), String> {
+        self.call(Call::Open(self.asked))?;
+        self.started = true;
+        let n = self.asked.n;
+        let mut so_far = 0;
+        while so_far < distance {
+            for _ in 0..self.rng.pick(&[0, 1, 2, 2, 8]) {
+                let (port, datagram) = self.any_packet();
+                self.call(on_port(port, datagram))?;
+            }
+            let anything = self.rng.between(1, n);
+            let by = self.rng.pick(&[n, n, n - n / 4, anything, 1]);
+            let before = self.window.base;
+            self.call(Call::Move(by))?;
+            if self.window.base != before.wrapping_add(by as u16) {
+                return Err("  a move was refused\n".to_string());
+            }
+            so_far += by;
+        }
+        Ok(())
+    }
+
+    /// A move by one, by a matrix, by all, by anything else from 1 to n, or by a number that is refused.
+    fn advance(&mut self) -> Result<(), String> {
+        let (n, l) = (self.window.n.clamp(1, 1000), self.window.l.clamp(1, 20));
+        let by = match self.rng.below(20) {
+            0..=2 => 1,
+            3..=6 => self.asked.l * self.asked.d,
+            7 => n,
+            8..=11 => self.rng.between(1, n),
+            12..=15 => self.rng.between(1, l),
+            16 => 0,
+            17 => n + 1,
+            18 => self.rng.pick(&[u64::MAX, 1 << 63, 1 << 32, (1 << 32) + 1, 65_536, 65_537, u64::MAX / 200, (1 << 63) + 1]),
+            _ => twist(&mut self.rng, n),
+        };
+        self.call(Call::Move(by))
+    }
+
+    /// What is offered after a move: what was left, and the packets of the new positions with some of the others.
+    fn after_a_move(&mut self, mut left: VecDeque<(u8, Vec<u8>)>) -> VecDeque<(u8, Vec<u8>)> {
+        let (n, moved) = (self.stretch.n() as i64, std::mem::take(&mut self.moved) as i64);
+        let stretch = &self.stretch;
+        // The position, from the base as it is now, of a packet or of the last of a group.
+        let last = |port: u8, datagram: &[u8]| {
+            let at = if port == 1 { 2 } else { 12 };
+            let first = i64::from(u16::from_be_bytes([datagram[at], datagram[at + 1]]).wrapping_sub(stretch.base) as i16);
+            if port == 1 {
+                first
+            } else {
+                *stretch.members(port - 2, first).last().unwrap_or(&first)
+            }
+        };
+        // A group that had a member past the stretch was a made-up one.
+        left.retain(|(port, datagram)| *port == 1 || last(*port, datagram) + moved < n);
+        left.truncate(100);
+        let mut new = offers(&mut self.rng, stretch, self.mood.lies, self.mood.repeats);
+        new.retain(|(port, datagram)| last(*port, datagram) >= n - moved || self.rng.chance(100));
+        new.truncate(100);
+        let mut new = VecDeque::from(new);
+        let mut list = VecDeque::new();
+        let from_left = self.rng.pick(&[500, 900, 1000]);
+        while !left.is_empty() || !new.is_empty() {
+            let old = new.is_empty() || !left.is_empty() && self.rng.chance(from_left);
+            list.extend(if old { left.pop_front() } else { new.pop_front() });
+        }
+        if self.mood.dirty {
+            for i in (n - moved).max(0) as usize..n as usize {
+                if self.rng.chance(300) {
+                    self.smear_position(i);
+                }
+            }
+            self.undo.clear();
+        }
+        list
     }
 
     /// An opening that mostly is not permitted, and calls with the value that it gives.
@@ -555,13 +685,14 @@ impl Play<'_> {
         }
     }
 
-    /// Reads a packet out or writes a parity packet.
+    /// Reads a packet out, writes a parity packet, or moves.
     fn look(&mut self) -> Result<(), String> {
         let number = self.any_number();
         let stamp = Stamp { sequence: self.rng.next() as u16, timestamp: self.rng.next() as u32, ssrc: self.rng.next() as u32 };
-        let call = match self.rng.below(3) {
-            0 => Call::Read(number),
-            1 => Call::WriteColumn(number, stamp),
+        let call = match self.rng.below(4) {
+            0 if self.moves_left > 0 => return self.advance(),
+            0 | 1 => Call::Read(number),
+            2 => Call::WriteColumn(number, stamp),
             _ => Call::WriteRow(number, stamp),
         };
         self.call(call)
@@ -796,6 +927,7 @@ impl Play<'_> {
             }
         };
         let headers = if matches!(call, Call::Read(_)) { 12 } else { 28 };
+        let by = if let Call::Move(by) = call { *by } else { 0 };
         let mut lent = Sizes {
             media: lend(w.n.saturating_mul(w.p), size.media),
             timestamps: lend(w.n, size.timestamps),
@@ -804,11 +936,25 @@ impl Play<'_> {
             parity: lend(w.k.saturating_mul(w.p), size.parity),
             records: lend(w.k, size.records),
             out: lend(w.p.saturating_add(headers), size.out),
+            slots: lend(by.saturating_mul(w.p.saturating_add(12)), size.slots),
+            lefts: lend(by, size.lefts),
         };
         if matches!(call, Call::Read(_) | Call::WriteColumn(..) | Call::WriteRow(..)) && self.rng.chance(3 * self.mood.short) {
             // Often just under the need, whatever else is wrong.
             let under = self.rng.between(1, 3) as usize;
             lent.out = ((w.p.min(1428) + headers) as usize - under).min(lent.out);
+        }
+        if by > 0 && self.rng.chance(6 * self.mood.short) {
+            let (slots, slot) = (by.saturating_mul(w.p.saturating_add(12)), w.p.saturating_add(12));
+            let under = self.rng.pick(&[1, 1, 1, slot, slots]);
+            let few = self.rng.pick(&[1, 1, by]);
+            let which = self.rng.below(3);
+            if which != 0 {
+                lent.slots = lent.slots.min(slots.saturating_sub(under) as usize);
+            }
+            if which != 1 {
+                lent.lefts = lent.lefts.min((by - few) as usize);
+            }
         }
         if self.rng.chance(self.mood.short) {
             let part = match self.rng.below(7) {
@@ -844,13 +990,21 @@ impl Play<'_> {
         if !made_up || answer.number == 0 {
             self.window = answer.window;
         }
-        if matches!(call, Call::Open(_)) || answer.number == 0 || (!made_up && answer.number > 5) {
+        if let (Call::Move(by), 0) = (&call, answer.number) {
+            self.stretch.advance(&mut self.rng, *by as usize);
+            self.asked.base = self.stretch.base;
+            self.moved += by;
+            self.moves_left -= 1;
+        }
+        // 22 is given before the store is looked at.
+        let in_order = answer.number == 0 || (answer.number > 5 && answer.number != 22);
+        if matches!(call, Call::Open(_)) || answer.number == 0 || (!made_up && in_order) {
             self.undo.clear();
         }
         if answer.number == 5 && !made_up && !self.undo.is_empty() && self.rng.chance(700) {
             self.undo();
         }
-        self.stuck = if answer.number == 0 || answer.number > 5 { 0 } else { self.stuck + 1 };
+        self.stuck = if in_order { 0 } else { self.stuck + 1 };
         if self.stuck >= 6 {
             // A window that only refuses shows nothing more: begin again.
             self.stuck = 0;
@@ -876,7 +1030,7 @@ mod tests {
             let (mut a, mut b) = (Tally::default(), Tally::default());
             run(seed, &mut a).unwrap();
             run(seed, &mut b).unwrap();
-            assert_eq!((a.calls, a.numbers, a.rebuilt, a.spoilt), (b.calls, b.numbers, b.rebuilt, b.spoilt));
+            assert_eq!((a.calls, a.numbers, a.rebuilt, a.spoilt, a.moves), (b.calls, b.numbers, b.rebuilt, b.spoilt, b.moves));
         }
     }
 }

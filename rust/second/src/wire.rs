@@ -11,6 +11,10 @@ pub struct Stretch {
     pub timestamps: Vec<u32>,
     /// One or more whole units up to P, each packet its own.
     pub payloads: Vec<Vec<u8>>,
+    wild: bool,
+    step: u32,
+    sparse: bool,
+    short: u64,
 }
 
 /// What P is made of: 188 or 204.
@@ -22,6 +26,18 @@ pub fn unit(p: usize) -> usize {
     }
 }
 
+fn draw_payload(rng: &mut Rng, p: usize, sparse: bool, short: u64) -> Vec<u8> {
+    let units = (p / unit(p)) as u64;
+    let len = if rng.chance(short) { rng.between(1, units) as usize * unit(p) } else { p };
+    let mut bytes = vec![0; len];
+    if sparse {
+        bytes[rng.index(len)] = rng.byte();
+    } else {
+        rng.fill(&mut bytes);
+    }
+    bytes
+}
+
 impl Stretch {
     pub fn draw(rng: &mut Rng, base: u16, l: usize, d: usize, p: usize, n: usize) -> Stretch {
         let step = rng.pick(&[0u32, 3600, 1, 0x8000_0001]);
@@ -30,21 +46,21 @@ impl Stretch {
         let timestamps = (0..n as u32).map(|i| if wild { rng.next() as u32 } else { start.wrapping_add(i.wrapping_mul(step)) }).collect();
         // Sparse payloads are mostly zeros, so that a length is all that tells some of them apart.
         let sparse = rng.chance(150);
-        let units = (p / unit(p)) as u64;
         let short = rng.pick(&[0, 100, 500, 1000, 1000]);
-        let payloads = (0..n)
-            .map(|_| {
-                let len = if rng.chance(short) { rng.between(1, units) as usize * unit(p) } else { p };
-                let mut bytes = vec![0; len];
-                if sparse {
-                    bytes[rng.index(len)] = rng.byte();
-                } else {
-                    rng.fill(&mut bytes);
-                }
-                bytes
-            })
-            .collect();
-        Stretch { base, l, d, p, timestamps, payloads }
+        let payloads = (0..n).map(|_| draw_payload(rng, p, sparse, short)).collect();
+        Stretch { base, l, d, p, timestamps, payloads, wild, step, sparse, short }
+    }
+
+    /// The stretch of the same sender so many packets later: what both have is the same.
+    pub fn advance(&mut self, rng: &mut Rng, by: usize) {
+        self.base = self.base.wrapping_add(by as u16);
+        for _ in 0..by {
+            let last = self.timestamps[self.n() - 1];
+            self.timestamps.push(if self.wild { rng.next() as u32 } else { last.wrapping_add(self.step) });
+            self.payloads.push(draw_payload(rng, self.p, self.sparse, self.short));
+        }
+        self.timestamps.drain(..by);
+        self.payloads.drain(..by);
     }
 
     pub fn n(&self) -> usize {
