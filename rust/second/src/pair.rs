@@ -31,7 +31,7 @@ pub struct Sizes {
     pub out: usize,
     /// Of a move: the output, in bytes, and the numbers beside it.
     pub slots: usize,
-    pub lefts: usize,
+    pub sizes: usize,
 }
 
 /// What was met so far.
@@ -125,7 +125,7 @@ impl Moves {
 
     /// Counts a move by its answer; `old` says whether a missing position that stayed had old bytes.
     fn count(&mut self, w: Window, by: u64, lent: Sizes, old: bool, answer: Answer) {
-        let (out, sizes) = (lent.slots as u64, lent.lefts as u64);
+        let (out, sizes) = (lent.slots as u64, lent.sizes as u64);
         let need = || by * (12 + w.p);
         match answer.number {
             0 => {
@@ -177,7 +177,7 @@ pub struct Pair {
     raw_before: Vec<RawRecord>,
     out: [Vec<u8>; 2],
     slots: [Vec<u8>; 2],
-    lefts: [Vec<u16>; 2],
+    sizes: [Vec<u16>; 2],
 }
 
 impl Pair {
@@ -206,7 +206,7 @@ impl Pair {
             raw,
             out: [vec![0; size.out], vec![0; size.out]],
             slots: [vec![0; size.slots], vec![0; size.slots]],
-            lefts: [vec![0; size.lefts], vec![0; size.lefts]],
+            sizes: [vec![0; size.sizes], vec![0; size.sizes]],
         }
     }
 
@@ -220,7 +220,7 @@ impl Pair {
             records: self.records.len(),
             out: self.out[0].len(),
             slots: self.slots[0].len(),
-            lefts: self.lefts[0].len(),
+            sizes: self.sizes[0].len(),
         }
     }
 
@@ -312,7 +312,7 @@ impl Pair {
         first_difference("output", &self.out, &mut faults);
         if by.is_some() {
             first_difference("slots", &self.slots, &mut faults);
-            first_difference("sizes", &self.lefts, &mut faults);
+            first_difference("sizes", &self.sizes, &mut faults);
         }
         for i in 0..self.records.len() {
             if self.records[i] != self.raw[i].get() {
@@ -339,11 +339,11 @@ impl Pair {
     fn noise(&mut self, seed: u8) {
         let mut rng = Rng::new(u64::from(seed), 13);
         rng.fill(&mut self.slots[0]);
-        self.lefts[0].fill_with(|| rng.next() as u16);
+        self.sizes[0].fill_with(|| rng.next() as u16);
         let [slots, same_slots] = &mut self.slots;
         same_slots.copy_from_slice(slots);
-        let [lefts, same_lefts] = &mut self.lefts;
-        same_lefts.copy_from_slice(lefts);
+        let [sizes, same_sizes] = &mut self.sizes;
+        same_sizes.copy_from_slice(sizes);
     }
 
     /// Whether a missing position that a move would keep has bytes other than zeros.
@@ -373,7 +373,7 @@ impl Pair {
             Call::Read(number) => model::read(w, *number, &s, out),
             Call::WriteColumn(snbase, stamp) => model::write_column(w, *snbase, *stamp, &s, out),
             Call::WriteRow(snbase, stamp) => model::write_row(w, *snbase, *stamp, &s, out),
-            Call::Move(by) => moving::advance(w, *by, &mut s, &mut self.slots[0][..lent.slots], &mut self.lefts[0][..lent.lefts]),
+            Call::Move(by) => moving::advance(w, *by, &mut s, &mut self.slots[0][..lent.slots], &mut self.sizes[0][..lent.sizes]),
         }
     }
 
@@ -401,7 +401,7 @@ impl Pair {
             Call::Read(number) => face::read(w, *number, &s, out),
             Call::WriteColumn(snbase, stamp) => face::write_column(w, *snbase, *stamp, &s, out),
             Call::WriteRow(snbase, stamp) => face::write_row(w, *snbase, *stamp, &s, out),
-            Call::Move(by) => face::advance(w, *by, &mut s, &mut self.slots[1][..lent.slots], &mut self.lefts[1][..lent.lefts]),
+            Call::Move(by) => face::advance(w, *by, &mut s, &mut self.slots[1][..lent.slots], &mut self.sizes[1][..lent.sizes]),
         };
         (answer, true)
     }

@@ -215,7 +215,7 @@ fn round_and_move(rng: &mut Rng, receiver: &mut Receiver, stretch: &Stretch, at:
         let mut end = receiver.clone();
         judge(&mut end, stretch, *at, &list, expected)
             .map_err(|text| format!("present {present:016b}, received {received:016b}, in hand {held:?}, groups {groups:?}\n  {text}"))?;
-        tally.lost += u64::from((!(present | received) & ((1 << n) - 1)).count_ones());
+        tally.lost += u64::from(unreceived.count_ones());
         tally.rebuilt += u64::from((unreceived & !expected).count_ones());
         tally.partly += u64::from(expected != 0 && expected != unreceived);
         tally.in_hand += u64::from(!held.is_empty());

@@ -98,8 +98,8 @@ pub fn run(seed: u64, tally: &mut Tally) -> Result<(), String> {
     result.map_err(|text| format!("step {}\n{text}", play.step))
 }
 
-/// Runs a window that moves until its numbers have wrapped two to four times, with few packets between two moves. All of them are
-/// unaltered.
+/// Runs a window that moves until its numbers have wrapped two to four times, with few packets between two moves: unaltered ones where
+/// the seed is even.
 pub fn run_long(seed: u64, tally: &mut Tally) -> Result<(), String> {
     let mut rng = Rng::new(seed, 8);
     let (l, d) = rng.pick(&[(1, 4), (4, 4), (5, 5), (20, 5), (10, 10), (4, 20)]);
@@ -108,7 +108,8 @@ pub fn run_long(seed: u64, tally: &mut Tally) -> Result<(), String> {
     let base = rng.next() as u16;
     let asked =
         Window { base, ssrc: rng.next() as u32, l, d, p: rng.pick(&[188, 204, 376]), n, k: rng.between(1, 24), present: 0, in_use: 0 };
-    let mood = Mood { disturb: 0, made_up: 0, short: 0, lies: 0, repeats: 0, moves: 0, dirty: false, unaltered: true };
+    let unaltered = seed % 2 == 0;
+    let mood = Mood { disturb: 0, made_up: 0, short: 0, lies: 0, repeats: 0, moves: 0, dirty: false, unaltered };
     let mut play = Play::new(rng, mood, asked, 0, u64::MAX, tally);
     let result = play.far(65_536 * (2 + seed % 3));
     result.map_err(|text| format!("step {}\n{text}", play.step))
@@ -455,7 +456,7 @@ impl<'a> Play<'a> {
             records: k + slack + GUARD,
             out: 28 + p + 64,
             slots: (n + slack) * (12 + p) + slack % 3 + GUARD,
-            lefts: n + slack + GUARD,
+            sizes: n + slack + GUARD,
         };
         let stretch = Stretch::draw(&mut rng, asked.base, asked.l as usize, asked.d as usize, p, n);
         let pair = Pair::new(&mut rng, size);
@@ -521,8 +522,16 @@ impl<'a> Play<'a> {
         let mut so_far = 0;
         while so_far < distance {
             for _ in 0..self.rng.pick(&[0, 1, 2, 2, 8]) {
-                let (port, datagram) = self.any_packet();
+                let (port, mut datagram) = self.any_packet();
+                if !self.mood.unaltered && self.rng.chance(300) {
+                    alter(&mut self.rng, &self.stretch, port, &mut datagram);
+                }
                 self.call(on_port(port, datagram))?;
+            }
+            if !self.mood.unaltered && self.rng.chance(100) {
+                let i = self.rng.index(n as usize);
+                self.smear_position(i);
+                self.look()?;
             }
             let anything = self.rng.between(1, n);
             let by = self.rng.pick(&[n, n, n - n / 4, anything, 1]);
@@ -937,7 +946,7 @@ impl<'a> Play<'a> {
             records: lend(w.k, size.records),
             out: lend(w.p.saturating_add(headers), size.out),
             slots: lend(by.saturating_mul(w.p.saturating_add(12)), size.slots),
-            lefts: lend(by, size.lefts),
+            sizes: lend(by, size.sizes),
         };
         if matches!(call, Call::Read(_) | Call::WriteColumn(..) | Call::WriteRow(..)) && self.rng.chance(3 * self.mood.short) {
             // Often just under the need, whatever else is wrong.
@@ -953,7 +962,7 @@ impl<'a> Play<'a> {
                 lent.slots = lent.slots.min(slots.saturating_sub(under) as usize);
             }
             if which != 1 {
-                lent.lefts = lent.lefts.min((by - few) as usize);
+                lent.sizes = lent.sizes.min((by - few) as usize);
             }
         }
         if self.rng.chance(self.mood.short) {

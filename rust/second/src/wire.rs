@@ -141,3 +141,24 @@ impl Stretch {
         bytes
     }
 }
+
+#[cfg(test)]
+mod tests {
+    use super::*;
+
+    /// What a stretch and a later one of the same sender have in common is the same, over the wrap too.
+    #[test]
+    fn a_later_stretch() {
+        for seed in 0..20 {
+            let mut rng = Rng::new(seed, 1);
+            let first = Stretch::draw(&mut rng, 65_530, 4, 4, 376, 20);
+            let mut later = Stretch::draw(&mut Rng::new(seed, 1), 65_530, 4, 4, 376, 20);
+            later.advance(&mut rng, 7);
+            assert_eq!((later.n(), later.base), (20, 1));
+            assert!((0..13).all(|i| later.media(i, 5) == first.media(i + 7, 5)));
+            assert_eq!(later.parity(1, 9, 1, 2, 3), first.parity(1, 16, 1, 2, 3));
+            later.advance(&mut rng, 30);
+            assert_eq!((later.n(), later.base), (20, 31));
+        }
+    }
+}
