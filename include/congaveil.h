@@ -2,11 +2,13 @@
  * (Pro-MPEG Code of Practice 3, SMPTE 2022-1).
  *
  * A card opens a window over n consecutive packets, offers it every datagram that
- * arrives, and reads packets back out; it can also write the parity of any complete
- * group. A card that sends opens a sender, and gets the parity packets as they are due.
+ * arrives, and moves it on with the stream, which hands out the packets that it leaves
+ * behind; it can also read single packets, and write the parity of any complete group.
+ * A card that sends opens a sender, and gets the parity packets as they are due.
  * The library keeps nothing: the card lends the store to every call, and gets
  * the next window value back beside the answer. It has no heap, clock, socket or
- * variable of its own, asks for memcpy and memset and nothing else, and runs on x86-64.
+ * variable of its own, asks for memcpy, memmove and memset and nothing else, and runs on
+ * x86-64.
  *
  *     static uint8_t media[200 * 1316], marks[200], parity[40 * 1316];
  *     static uint32_t timestamps[200];
@@ -21,6 +23,7 @@
  *                                               higher; _row: four ports higher)
  *     payload = cgv_receiver_payload(&r, number);   (NULL where it is missing)
  *     len = cgv_receiver_length(&r, number);        (its bytes; 0 where it is missing)
+ *     cgv_receiver_move(&r, by, out, sizeof out, sizes, by);   (An endless stream, below)
  *
  * What a call does is proved for every input: answer, next window value and every lent
  * byte are those of its definition. The functions written out in this header are not
@@ -30,8 +33,8 @@
  *   - Every pointer is valid for its length, also where the length is 0 (not NULL), and
  *     aligned for its type.
  *   - The buffers of one call do not overlap.
- *   - A call that may write the store (cgv_open, cgv_media, cgv_column, cgv_row) is alone
- *     on that store, and the two calls of a sender are alone on its room. Calls that only
+ *   - A call that may write the store (cgv_open, cgv_media, cgv_column, cgv_row, cgv_move)
+ *     is alone on that store, and the two calls of a sender are alone on its room. Calls that only
  *     read a store (cgv_read, cgv_write_column, cgv_write_row and the helpers here that take
  *     a const receiver) may run side by side, each with an output of its own. Calls on
  *     different stores or rooms never meet. The calls of capture files take no store; they
@@ -61,20 +64,21 @@
  * that was changed is refused with 5 as far as that can be seen. Bytes past a kept length
  * count as zero, whatever stands there.
  * A buffer may be longer than its need; what is past the need is never touched.
- * cgv_open writes all that the window needs of the six parts, an offer some of that;
- * cgv_read and the writing of parity write the output alone, and of that as many bytes as
- * the count says.
+ * cgv_open writes all that the window needs of the six parts, an offer and cgv_move some of
+ * that; cgv_read and the writing of parity write the output alone, and of that as many bytes
+ * as the count says.
  *
  * How large
  *   n: L x D at least, 400 at most. Senders put a matrix's column parity on the line
- *   while the next matrix goes by, so take 2 x L x D or more.
+ *   while the next matrix goes by, so take 2 x L x D or more; An endless stream, below, says
+ *   how much more.
  *   K: 128 at most. Room for every parity packet that may be of use is as many as there
  *   are groups in the window: L + D for each L x D positions, rounded up (L alone where
  *   there are no rows). With less, 16 says that one was not taken; with that much, the
  *   unaltered traffic of one sender never meets 16.
  *   Anyone who can send to the parity ports can hold all K records with K forged parity
- *   packets, each over packets that are missing, until these arrive or the window ends:
- *   true parity then meets 16. And forged or damaged parity rebuilds wrong packets, which
+ *   packets, each over packets that are missing, until these arrive or the window has moved
+ *   past one of them: true parity then meets 16. And forged or damaged parity rebuilds wrong packets, which
  *   nothing shows but a 15 when the true one arrives; where the packet that it gives cannot
  *   be right at all, it is spoilt. Sender addresses are the card's to check.
  *
@@ -90,8 +94,8 @@
  *              other parity gives it. Unaltered traffic never shows one: parity was damaged
  *              or forged, or a media packet of its group was, which may have gone to air.
  *              Tell the desk.
- *   13 14 16   routine: of another window; already there; no room for it now. A sender's 13
- *              is a gap in what is to be sent: open again, as said under Sending.
+ *   13 14 16   routine: behind the window or ahead of it; already there; no room for it now.
+ *              A sender's 13 is a gap in what is to be sent: open again, as said under Sending.
  *   15         on media THE ALARM: a packet already marked present differs from the one
  *              that arrived. One of the two is wrong, and the one in the store may have
  *              gone to air. On parity: two parity packets of one group differ.
@@ -99,6 +103,7 @@
  *   6 to 12    a datagram of another kind, port or profile, or a damaged one.
  *   1 to 5     a fault in the card: set-up, buffers, or a store or room that somebody
  *              changed.
+ *   22         a fault in the card: a move by 0 or by more than n positions.
  *   21         of a capture file alone: it is not a proper one, or what was to be written
  *              would not be.
  * A refused call gives a count of 0 and has written to none of the buffers. It hands back
@@ -112,18 +117,38 @@
  *   At P 1,316, n 400, K 128 a media packet takes some 0.2 us and the worst call found,
  *   one late packet that rebuilds 100, some 45 us: docs/PERFORMANCE.md.
  *
- * An endless stream (examples/endless.c)
- *   A window stands still. Take two windows in turn, each with a store of its own, and
- *   offer every datagram to both; 13 is the answer of the one that it is not for. Windows
- *   that overlap by (D - 1) x L positions lose no group at the seams: the next base is
- *   base + n - (D - 1) x L, and each group of the stream lies wholly in one of them.
- *   A packet in the overlap may be rebuilt in one of the two alone: before a window is
- *   closed, offer what it has there to the other one (cgv_receiver_read gives the
- *   datagram). Column parity comes up to L x D packets after its matrix, so that two
- *   windows in turn ask for n >= 2 x (D - 1) x L + L x D.
- *   Windows end to end cut the groups that cross a seam, unless each starts where a matrix
- *   starts: of some 4,000 packets lost (10 x 10, n 400, 2 % lost, joined in mid-matrix)
- *   274 stayed missing end to end, and 6 with the overlap.
+ * An endless stream (examples/endless.c, examples/card.c)
+ *   One window moves with the stream. cgv_move takes the base on by 1 to n positions: it
+ *   writes the packets that leave, in order, as datagrams, moves the others down, and makes
+ *   room for as many at the end.
+ *
+ *     static uint8_t out[CGV_MOVE_ROOM(100, 1316)];
+ *     static uint16_t sizes[100];
+ *
+ *     if (cgv_media_number(datagram, len, &number))      (before a media packet is offered)
+ *         while (cgv_position(&r.window, number) >= r.window.n &&
+ *                cgv_position(&r.window, number) < 2 * r.window.n &&
+ *                cgv_receiver_move(&r, 100, out, sizeof out, sizes, 100).number == CGV_DONE)
+ *             for (i = 0; i < 100; i++) {
+ *                 struct cgv_left left =
+ *                     cgv_receiver_left(&r, 100, i, out, sizeof out, sizes, 100);
+ *                 if (left.datagram)
+ *                     send_on(left.datagram, left.len);
+ *                 else
+ *                     given_up(left.number);
+ *             }
+ *     cgv_receiver_media(&r, datagram, len);
+ *
+ *   How far: by L x D, a matrix at a time, or by 1, which costs more time a packet and lets
+ *   each packet out when the n-th after it comes. How large n: 2 x L x D where the window
+ *   moves by 1, or by L x D from a base at which a matrix starts; 2 x L x D + by from any
+ *   base. With less, a window leaves packets behind whose column is not on the line yet.
+ *   What is behind the base: a packet that comes later than that meets 13, and so does
+ *   parity with a member there. Parity in hand with a member there is released by the move,
+ *   since it could rebuild nothing of the window any more.
+ *   How far ahead: a number far ahead of the window may be damaged or forged, and moving up
+ *   to it gives up all that the window waits for. So move for a packet just ahead (here,
+ *   less than n), and open again where the stream itself has jumped.
  *
  * Sending (examples/send.c)
  *   A sender takes media packets one by one, in order, and keeps running parity in lent room
@@ -243,8 +268,8 @@ struct cgv_record {
     uint16_t payload_length; /* bytes of its own payload */
 };
 
-/* number: CGV_DONE or the refusal. count: packets rebuilt by an offer, or bytes written
- * by cgv_read and the writing of parity. spoilt: parity packets that an offer released
+/* number: CGV_DONE or the refusal. count: packets rebuilt by an offer, packets written by
+ * cgv_move, or bytes written by cgv_read and the writing of parity. spoilt: parity packets that an offer released
  * because the packet that they gave cannot be right; 0 of every other call and refusal.
  * window: to be passed to the next call. */
 struct cgv_answer {
@@ -363,7 +388,8 @@ CGV_LAYOUT(outer, sizeof(struct cgv_outer) == 12 && offsetof(struct cgv_outer, t
 CGV_LAYOUT(sent, sizeof(struct cgv_sent) == 64 && offsetof(struct cgv_sent, row) == 8 &&
                      offsetof(struct cgv_sent, column) == 16 && offsetof(struct cgv_sent, sender) == 24);
 
-/* Answers: the first refusal that applies, in this order; of a capture file 21 comes before 4. */
+/* Answers: the first refusal that applies, in this order; but 21 of a capture file and 22 of a
+ * move come before 4. */
 enum {
     CGV_DONE = 0,
     CGV_BAD_PROFILE = 1,      /* not 1 <= L <= 20, 4 <= D <= 20, L x D <= 100 */
@@ -384,13 +410,15 @@ enum {
     CGV_DIFFERS = 15,         /* already held, with a difference: on media, the alarm */
     CGV_FULL = 16,            /* two or more are missing and every record is in use */
     CGV_MISSING = 17,         /* reading a missing packet, or writing parity over one */
-    CGV_BAD_CAPTURE = 21      /* not a proper capture file, or not the content of one */
+    CGV_BAD_CAPTURE = 21,     /* not a proper capture file, or not the content of one */
+    CGV_BAD_MOVE = 22         /* a window moved by 0 positions, or by more than n */
 };
-/* How many answers the seven calls on a window have, 0 to 17: the size of a table of them.
- * Those of a sender are among these; 21 is none of them. */
-#define CGV_NUMBERS 18
+/* The size of a table of answers by their number: above every number of this library. The
+ * eight calls on a window answer 0 to 17 and 22, a sender some of these; 18 to 20 are not
+ * used, and 21 is of capture files alone. */
+#define CGV_NUMBERS 23
 
-/* ---- the seven calls on a window. The store is lent as six parts, each with its length in
+/* ---- the eight calls on a window. The store is lent as six parts, each with its length in
  * elements. */
 
 /* Opens a window: 0, or 1 to 4 with a window value of zeros. All that the window needs of
@@ -460,6 +488,21 @@ struct cgv_answer cgv_write_row(struct cgv_window w, uint16_t snbase, uint16_t s
                                 const uint8_t *parity, size_t parity_len,
                                 const struct cgv_record *records, size_t records_len,
                                 uint8_t *out, size_t out_len);
+
+/* Moves the base on by so many positions (0, 1 to 3, 22, 4, 5 in this order): 22 where by is
+ * not from 1 to n, 4 also where out has fewer than by x (12 + P) bytes or sizes fewer than by
+ * numbers. Position i of the first by leaves: its datagram, as cgv_read writes it, goes to
+ * out + i * (12 + P), with zeros up to the next one, and its length to sizes[i]; where it is
+ * missing these are zeros and 0. What out and sizes have past by positions is not touched.
+ * The count is of packets written. The positions behind these move down by as many, and the
+ * last by positions are missing, all zeros. Parity in hand with a member behind the new base
+ * is released; other records stay where they lie. */
+struct cgv_answer cgv_move(struct cgv_window w, size_t by, uint8_t *media, size_t media_len,
+                           uint32_t *timestamps, size_t timestamps_len, uint16_t *lengths,
+                           size_t lengths_len, uint8_t *marks, size_t marks_len,
+                           uint8_t *parity, size_t parity_len, struct cgv_record *records,
+                           size_t records_len, uint8_t *out, size_t out_len, uint16_t *sizes,
+                           size_t sizes_len);
 
 /* ---- the two calls of a sender. Its room is lent as four parts, each with its length in
  * elements: 2 x L + 1 payloads of P bytes, and 2 x L + 1 numbers in each other part. */
@@ -620,6 +663,46 @@ cgv_receiver_write_row(const struct cgv_receiver *r, uint16_t snbase, uint16_t s
                          CGV_STORE_ARGUMENTS(r->store), out, out_len);
 }
 
+/* Bytes that a move by so many positions needs of its output, in a window of payloads up to p. */
+#define CGV_MOVE_ROOM(by, p) ((by) * (CGV_MEDIA_HEADER + (p)))
+
+/* Moves the window on. What leaves it is written to out and sizes; cgv_receiver_left walks it. */
+static inline struct cgv_answer cgv_receiver_move(struct cgv_receiver *r, size_t by,
+                                                  uint8_t *out, size_t out_len,
+                                                  uint16_t *sizes, size_t sizes_len)
+{
+    struct cgv_answer a = cgv_move(r->window, by, CGV_STORE_ARGUMENTS(r->store), out, out_len,
+                                   sizes, sizes_len);
+    r->window = a.window;
+    return a;
+}
+
+/* A packet that left the window: its number, and its datagram of len bytes, 12 and its payload,
+ * or NULL and 0 where it was missing. */
+struct cgv_left {
+    uint16_t number;
+    const uint8_t *datagram;
+    size_t len;
+};
+
+/* Packet i, from 0, of those that the last move left behind, which was by so many positions and
+ * wrote to out and sizes. NULL where it was missing, or out or sizes have no packet i. */
+static inline struct cgv_left cgv_receiver_left(const struct cgv_receiver *r, size_t by,
+                                                size_t i, const uint8_t *out, size_t out_len,
+                                                const uint16_t *sizes, size_t sizes_len)
+{
+    struct cgv_left left = {0, NULL, 0};
+    size_t slot = CGV_MEDIA_HEADER + r->window.p;
+    left.number = CGV_CAST(uint16_t, (r->window.base - by + i) & 65535u);
+    if (r->window.p > CGV_PAYLOAD_MAX || i >= by || i >= sizes_len || i >= out_len / slot)
+        return left;
+    if (sizes[i] == 0 || sizes[i] > slot)
+        return left;
+    left.datagram = out + i * slot;
+    left.len = sizes[i];
+    return left;
+}
+
 /* The position of a sequence number: its distance ahead of the base, counted with wrap.
  * It is in the window where that is below n. */
 static inline size_t cgv_position(const struct cgv_window *w, uint16_t number)
@@ -643,7 +726,7 @@ static inline int cgv_receiver_has(const struct cgv_receiver *r, uint16_t number
 
 /* The payload of a sequence number where it lies in the store, cgv_receiver_length bytes and
  * then zeros up to P, or NULL where the packet is missing or not of the window. It stays as
- * it is until the next opening. */
+ * it is until the next move or opening. */
 static inline const uint8_t *cgv_receiver_payload(const struct cgv_receiver *r,
                                                   uint16_t number)
 {
@@ -798,6 +881,7 @@ static inline const char *cgv_message(uint32_t number)
     case CGV_FULL: return "no record is free";
     case CGV_MISSING: return "packet missing";
     case CGV_BAD_CAPTURE: return "not a proper capture file";
+    case CGV_BAD_MOVE: return "window moved by no position, or by more than it has";
     default: return "not a number of this library";
     }
 }

@@ -2,7 +2,8 @@
  *
  * A desk is a plain struct that a card keeps beside a receiver: a byte for each position,
  * how its packet came, and counters. It lends nothing to the library, copies no marks, and
- * costs a byte written a media packet; positions are searched only after a rebuild.
+ * costs a byte written a media packet and n bytes a move; positions are searched only after
+ * a rebuild.
  *
  *     static struct cgv_desk desk;                        zeros: nothing counted yet
  *     cgv_receiver_open(&r, ...);
@@ -10,6 +11,7 @@
  *     a = cgv_desk_media(&desk, &r, datagram, len);       instead of cgv_receiver_media
  *     while (cgv_desk_rebuilt(&desk, &r, &number))        what was rebuilt since last asked
  *         send(number, cgv_receiver_payload(&r, number), cgv_receiver_length(&r, number));
+ *     a = cgv_desk_move(&desk, &r, by, out, sizeof out, sizes, by);   as cgv_receiver_move
  *     cgv_counters_line(&desk.counters, text, sizeof text);
  *
  * Not proved; tested in C and in Rust, whose crate has the same.
@@ -26,13 +28,15 @@ extern "C" {
 /* Sums over all windows that a desk was begun with; they only grow, so a rate is the
  * difference of two readings. */
 struct cgv_counters {
-    uint64_t positions;            /* packets to come, when the windows were opened */
+    uint64_t positions;            /* packets to come, when windows were opened and moved */
     uint64_t received;             /* media packets that arrived, each once, late ones too */
     uint64_t rebuilt;              /* packets rebuilt, also those that arrived afterwards */
     uint64_t late;                 /* rebuilt before they arrived */
     uint64_t alarms;               /* 15 on media: present, and another one arrived */
     uint64_t spoilt;               /* parity released: what it gave cannot be right */
-    uint64_t answers[CGV_NUMBERS]; /* offers by answer: [0] taken in, [n] refused with n */
+    uint64_t handed_out;           /* packets that were present when their window moved on */
+    uint64_t given_up;             /* packets that were missing then: lost for good */
+    uint64_t answers[CGV_NUMBERS]; /* [0] offers taken in, [n] offers and moves refused with n */
 };
 
 /* Rebuilt and never arrived: what the parity saved. */
@@ -41,14 +45,15 @@ static inline uint64_t cgv_recovered(const struct cgv_counters *c)
     return c->rebuilt > c->late ? c->rebuilt - c->late : 0;
 }
 
-/* Neither arrived nor rebuilt, up to now. */
+/* Neither arrived nor rebuilt up to now, and not given up: what the window waits for, and what
+ * earlier windows lacked when they were opened again. */
 static inline uint64_t cgv_missing(const struct cgv_counters *c)
 {
-    uint64_t here = c->received + cgv_recovered(c);
+    uint64_t here = c->received + cgv_recovered(c) + c->given_up;
     return c->positions > here ? c->positions - here : 0;
 }
 
-/* Offers that were refused. */
+/* Offers and moves that were refused. */
 static inline uint64_t cgv_refused(const struct cgv_counters *c)
 {
     uint64_t sum = 0;
@@ -68,6 +73,8 @@ static inline void cgv_counters_add(struct cgv_counters *sum, const struct cgv_c
     sum->late += c->late;
     sum->alarms += c->alarms;
     sum->spoilt += c->spoilt;
+    sum->handed_out += c->handed_out;
+    sum->given_up += c->given_up;
     for (i = 0; i < CGV_NUMBERS; i++)
         sum->answers[i] += c->answers[i];
 }
@@ -153,6 +160,33 @@ static inline struct cgv_answer cgv_desk_row(struct cgv_desk *desk, struct cgv_r
     return a;
 }
 
+/* Moves the window on, and counts. Packets that were rebuilt and not told are not told after
+ * they have left: they are in the output. */
+static inline struct cgv_answer cgv_desk_move(struct cgv_desk *desk, struct cgv_receiver *r,
+                                              size_t by, uint8_t *out, size_t out_len,
+                                              uint16_t *sizes, size_t sizes_len)
+{
+    struct cgv_answer a = cgv_receiver_move(r, by, out, out_len, sizes, sizes_len);
+    size_t i, end = r->window.n < CGV_POSITIONS_MAX ? r->window.n : CGV_POSITIONS_MAX;
+    if (a.number != CGV_DONE) {
+        if (a.number < CGV_NUMBERS)
+            desk->counters.answers[a.number]++;
+        return a;
+    }
+    desk->counters.positions += by;
+    desk->counters.handed_out += a.count;
+    desk->counters.given_up += by - a.count;
+    for (i = 0; i < end; i++) {
+        if (i < by && i < sizes_len && sizes[i] && desk->how[i] == CGV_HOW_NONE)
+            desk->untold -= desk->untold > 0;
+        desk->how[i] = CGV_HOW_NONE;
+        if (by < end - i)
+            desk->how[i] = desk->how[i + by];
+    }
+    desk->from = desk->from > by ? desk->from - by : 0;
+    return a;
+}
+
 /* The next packet that was rebuilt and not told yet: 1 and its number, in order of position
  * after each offer, or 0. A packet that arrived before it was told is not told. Ask after
  * each offer, or less often. */
@@ -191,7 +225,7 @@ static inline int cgv_desk_how(const struct cgv_desk *desk, const struct cgv_rec
 
 /* ---- a line of text, made without the C library */
 
-#define CGV_COUNTERS_LINE 768 /* room for the longest line, and the zero that ends it */
+#define CGV_COUNTERS_LINE 1024 /* room for the longest line, and the zero that ends it */
 
 struct cgv_text {
     char *out;
@@ -232,6 +266,8 @@ static inline size_t cgv_counters_line(const struct cgv_counters *c, char *out, 
     cgv_text_number(&t, c->late);
     cgv_text_put(&t, ", missing ");
     cgv_text_number(&t, cgv_missing(c));
+    cgv_text_put(&t, ", given up ");
+    cgv_text_number(&t, c->given_up);
     cgv_text_put(&t, ", alarms ");
     cgv_text_number(&t, c->alarms);
     cgv_text_put(&t, ", spoilt ");

@@ -166,7 +166,7 @@ static void at_a_stroke(void)
              cgv_desk_how(&desk, &r, at(4)) == CGV_HOW_REBUILT && cgv_desk_how(&desk, &r, at(16)) == CGV_HOW_NONE, "how they came");
     must(desk.counters.received + cgv_recovered(&desk.counters) + cgv_missing(&desk.counters) == N, "received, recovered and missing are all");
     cgv_counters_line(&desk.counters, line, sizeof line);
-    must(!strcmp(line, "received 15, recovered 1, late 2, missing 0, alarms 2, spoilt 0, refused 7 (no. 6: 1, no. 13: 1, no. 14: 3, no. 15: 2)"), line);
+    must(!strcmp(line, "received 15, recovered 1, late 2, missing 0, given up 0, alarms 2, spoilt 0, refused 7 (no. 6: 1, no. 13: 1, no. 14: 3, no. 15: 2)"), line);
     must(cgv_counters_line(&desk.counters, cut, sizeof cut) == strlen(line) && !strcmp(cut, "received "), "a line that is cut");
     must(cgv_counters_line(&desk.counters, NULL, 0) == strlen(line), "no room at all");
     cgv_counters_add(&sum, &desk.counters);
@@ -207,10 +207,60 @@ static void spoilt(void)
     must(cgv_desk_media(&desk, &r, g, media(g, at(4), byte_of(at(4)))).spoilt == 1 && desk.counters.spoilt == 2, "and is spoilt in hand");
     must(desk.counters.rebuilt == 0 && !cgv_desk_rebuilt(&desk, &r, &number) && cgv_missing(&desk.counters) == 1, "nothing is rebuilt");
     cgv_counters_line(&desk.counters, line, sizeof line);
-    must(!strcmp(line, "received 15, recovered 0, late 0, missing 1, alarms 0, spoilt 2, refused 0"), line);
+    must(!strcmp(line, "received 15, recovered 0, late 0, missing 1, given up 0, alarms 0, spoilt 2, refused 0"), line);
     cgv_counters_add(&sum, &desk.counters);
     cgv_counters_add(&sum, &desk.counters);
     must(sum.spoilt == 4, "sums");
+    end_receiver(&r);
+}
+
+/* A window of two matrices that moves on: what left is handed out or given up, what was rebuilt and not told leaves untold, and how
+ * the others came moves down with them. */
+static void moved_on(void)
+{
+    struct cgv_receiver r = new_receiver(2 * N, 188, K);
+    struct cgv_desk desk;
+    struct cgv_counters sum;
+    uint8_t g[216], *out = malloc(CGV_MOVE_ROOM(10, 188));
+    uint16_t *sizes = malloc(10 * sizeof *sizes), number = 0;
+    char line[CGV_COUNTERS_LINE];
+    int i;
+    must(out && sizes, "room");
+    memset(&desk, 0, sizeof desk);
+    memset(&sum, 0, sizeof sum);
+    must(cgv_receiver_open(&r, BASE, L, D, 188, 2 * N, K, 7).number == 0, "opens");
+    cgv_desk_begin(&desk, &r);
+    for (i = 0; i < N; i++)
+        if (i != 0 && i != 1 && i != 5 && i != 10 && i != 13)
+            cgv_desk_media(&desk, &r, g, media(g, at(i), byte_of(at(i))));
+    cgv_desk_row(&desk, &r, g, parity(g, 1, at(4)));
+    cgv_desk_column(&desk, &r, g, parity(g, 0, at(0)));
+    cgv_desk_row(&desk, &r, g, parity(g, 1, at(0)));
+    must(desk.counters.rebuilt == 3 && cgv_desk_rebuilt(&desk, &r, &number) && number == at(0), "0, 1 and 5 are rebuilt, and 0 is told");
+    must(cgv_desk_move(&desk, &r, 0, out, CGV_MOVE_ROOM(10, 188), sizes, 10).number == CGV_BAD_MOVE &&
+             desk.counters.answers[CGV_BAD_MOVE] == 1 && desk.counters.positions == 2 * N, "a move by 0 is refused and counted");
+    must(cgv_desk_move(&desk, &r, 2, out, CGV_MOVE_ROOM(10, 188), sizes, 10).count == 2, "0 and 1 leave");
+    must(desk.counters.handed_out == 2 && desk.counters.given_up == 0 && desk.counters.positions == 2 * N + 2, "and are handed out");
+    must(desk.untold == 1 && cgv_desk_how(&desk, &r, at(5)) == CGV_HOW_REBUILT && cgv_desk_how(&desk, &r, at(4)) == CGV_HOW_ARRIVED &&
+             cgv_desk_how(&desk, &r, at(1)) == CGV_HOW_NONE, "1 left untold; how the others came");
+    must(cgv_desk_media(&desk, &r, g, media(g, at(1), byte_of(at(1)))).number == CGV_OUTSIDE && desk.counters.late == 0, "1 arrives behind the base");
+    must(cgv_desk_rebuilt(&desk, &r, &number) && number == at(5) && !cgv_desk_rebuilt(&desk, &r, &number), "5 is told after the move");
+    must(cgv_desk_media(&desk, &r, g, media(g, at(5), byte_of(at(5)))).number == CGV_REPEAT && desk.counters.late == 1, "5 arrives late");
+    must(cgv_desk_move(&desk, &r, 10, out, CGV_MOVE_ROOM(10, 188), sizes, 10).count == 9 && desk.counters.handed_out == 11 &&
+             desk.counters.given_up == 1, "10 is given up");
+    must(cgv_desk_row(&desk, &r, g, parity(g, 1, at(12))).count == 1 && desk.untold == 1, "13 is rebuilt");
+    must(cgv_desk_move(&desk, &r, 4, out, CGV_MOVE_ROOM(10, 188), sizes, 10).count == 4 && desk.untold == 0, "and leaves untold");
+    must(!cgv_desk_rebuilt(&desk, &r, &number) && cgv_missing(&desk.counters) == 2 * N, "a window of packets to come");
+    for (i = 0; i < 2 * N; i++)
+        must(cgv_desk_how(&desk, &r, cgv_number(&r.window, (size_t)i)) == CGV_HOW_NONE && desk.how[i] == CGV_HOW_NONE, "none of them came");
+    must(cgv_desk_move(&desk, &r, 4, out, CGV_MOVE_ROOM(4, 188) - 1, sizes, 10).number == CGV_SHORT_BUFFER, "a short output");
+    cgv_counters_line(&desk.counters, line, sizeof line);
+    must(!strcmp(line, "received 12, recovered 3, late 1, missing 32, given up 1, alarms 0, spoilt 0, refused 4 (no. 4: 1, no. 13: 1, no. 14: 1, no. 22: 1)"), line);
+    cgv_counters_add(&sum, &desk.counters);
+    cgv_counters_add(&sum, &desk.counters);
+    must(sum.handed_out == 30 && sum.given_up == 2 && sum.answers[CGV_BAD_MOVE] == 2, "sums");
+    free(out);
+    free(sizes);
     end_receiver(&r);
 }
 
@@ -287,6 +337,7 @@ static void made_up(void)
             memset(desk.how, CGV_HOW_NONE, sizeof desk.how);
             desk.untold = SIZE_MAX;
             cgv_desk_media(&desk, &r, g, media(g, BASE, 1));
+            must(cgv_desk_move(&desk, &r, sizes[i], g, sizeof g, &number, 1).number != CGV_DONE, "a move of a window that was made up");
             while (cgv_desk_rebuilt(&desk, &r, &number))
                 must(cgv_receiver_has(&r, number) && cgv_desk_how(&desk, &r, number) == CGV_HOW_REBUILT, "what is told is marked");
             end_receiver(&r);
@@ -300,6 +351,7 @@ int main(int argc, char **argv)
     without_a_loss(argv[2]);
     at_a_stroke();
     spoilt();
+    moved_on();
     neighbours();
     past_the_desk();
     made_up();

@@ -1,5 +1,5 @@
-/* The C face: every number of document 01 is reached through it, and 21, a refusal changes nothing that was lent, and nothing is
- * touched past a buffer's need. The buffers come from malloc with not a byte to spare, or with spare elements that are
+/* The C face: every number of document 01 is reached through it, and 21 and 22, a refusal changes nothing that was lent, and nothing
+ * is touched past a buffer's need. The buffers come from malloc with not a byte to spare, or with spare elements that are
  * watched; under valgrind a step past either is an error. Prints how many calls were made; exits 1 at the first difference. */
 #include "congaveil.h"
 #include <stdio.h>
@@ -9,7 +9,7 @@
 enum { L = 4, D = 4, P = 188, N = 16, K = 8, BASE = 65530, SPARE = 5, LONGEST = 3 * P, LARGEST = 4 * P };
 
 static size_t calls, spare, spoilt; /* spoilt: what the next answer must say; then 0 again */
-static int reached[CGV_BAD_CAPTURE + 1];
+static int reached[CGV_NUMBERS];
 
 struct bench {
     struct cgv_receiver r;
@@ -316,7 +316,8 @@ static void helpers(void)
         broken("CGV_VERSION");
     if (strcmp(cgv_message(9), "payload not whole transport packets up to the window's size") ||
         strcmp(cgv_message(11), "payload type recovery not the profile's") || strcmp(cgv_message(18), "not a number of this library") || !strcmp(cgv_message(17), cgv_message(18)) ||
-        strcmp(cgv_message(21), "not a proper capture file") || strcmp(cgv_message(22), cgv_message(18)))
+        strcmp(cgv_message(21), "not a proper capture file") || strcmp(cgv_message(22), "window moved by no position, or by more than it has") ||
+        strcmp(cgv_message(CGV_NUMBERS), cgv_message(18)))
         broken("a number in words");
     opens("opens", &b, L, D, P, N, K, 0);
     offers("taken", &b, cgv_receiver_media, g, media(g, 2), 0, 0);
@@ -706,6 +707,224 @@ static void units_of_204(void)
     end_bench(&b);
 }
 
+/* ---- moves */
+
+static int zeros(const uint8_t *bytes, size_t len)
+{
+    while (len)
+        if (bytes[--len])
+            return 0;
+    return 1;
+}
+
+/* What a move by so many positions must leave in the store, worked out from the one before: the window value after it. */
+static struct cgv_window after_move(const struct bench *b, struct cgv_window w, size_t by)
+{
+    static const struct cgv_record none;
+    const struct cgv_store *is = &b->r.store, *was = &b->before;
+    size_t i, p = w.p;
+    w.present = w.in_use = 0;
+    for (i = 0; i < w.n; i++) {
+        int stays = i + by < w.n;
+        w.present += is->marks[i];
+        if (stays ? memcmp(is->media + i * p, was->media + (i + by) * p, p) || is->timestamps[i] != was->timestamps[i + by] ||
+                        is->lengths[i] != was->lengths[i + by] || is->marks[i] != was->marks[i + by]
+                  : !zeros(is->media + i * p, p) || is->timestamps[i] || is->lengths[i] || is->marks[i])
+            broken(stays ? "a position that moved down" : "a new position");
+    }
+    for (i = 0; i < w.k; i++) {
+        const struct cgv_record *r = &was->records[i];
+        int cut = r->in_use && (uint16_t)(r->snbase - w.base) < by; /* its first member is the one furthest back */
+        w.in_use += is->records[i].in_use;
+        if (!same_record(&is->records[i], cut ? &none : r) ||
+            (cut ? !zeros(is->parity + i * p, p) : memcmp(is->parity + i * p, was->parity + i * p, p)))
+            broken(cut ? "parity behind the new base" : "parity that stays in hand");
+    }
+    w.base = (uint16_t)(w.base + by);
+    return w;
+}
+
+/* A move that is done, with so many packets written; what it wrote is what cgv_read gave of each before. */
+static void moves(const char *what, struct bench *b, size_t by, size_t count)
+{
+    struct cgv_window w = b->r.window;
+    size_t slot = CGV_MEDIA_HEADER + w.p, out_len = CGV_MOVE_ROOM(by, w.p) + spare, sizes_len = by + spare, i;
+    uint8_t *out = room(out_len), *again = room(slot);
+    uint16_t *sizes = room(sizes_len * sizeof *sizes);
+    struct cgv_receiver old;
+    copy_store(&b->before, &b->r.store);
+    old.window = w;
+    old.store = b->before;
+    check(what, b, w, cgv_receiver_move(&b->r, by, out, out_len, sizes, sizes_len), 0, count, 1);
+    for (i = 0; i < by; i++) {
+        struct cgv_left left = cgv_receiver_left(&b->r, by, i, out, out_len, sizes, sizes_len);
+        size_t len = cgv_receiver_read(&old, cgv_number(&w, i), again, slot).count;
+        if (sizes[i] != len || memcmp(out + i * slot, again, len) || !zeros(out + i * slot + len, slot - len))
+            broken("a packet that left");
+        if (left.number != cgv_number(&w, i) || left.len != len || left.datagram != (len ? out + i * slot : NULL))
+            broken("the walk over what left");
+        count -= len != 0;
+    }
+    for (i = by * slot; i < out_len; i++)
+        if (out[i] != 0xA5)
+            broken("an output past the packets that left");
+    for (i = by; i < sizes_len; i++)
+        if (sizes[i] != 0xA5A5)
+            broken("sizes past the packets that left");
+    if (count || !same_window(b->r.window, after_move(b, w, by)))
+        broken("the window value after a move");
+    free(out);
+    free(again);
+    free(sizes);
+}
+
+/* A move that is refused, with outputs of these lengths; nothing of them is written. */
+static void no_move(const char *what, struct bench *b, size_t by, size_t out_len, size_t sizes_len, uint32_t number)
+{
+    uint8_t *out = room(out_len);
+    uint16_t *sizes = room(sizes_len * sizeof *sizes);
+    struct cgv_window w = b->r.window;
+    size_t i;
+    copy_store(&b->before, &b->r.store);
+    check(what, b, w, cgv_receiver_move(&b->r, by, out, out_len, sizes, sizes_len), number, 0, 1);
+    for (i = 0; i < out_len; i++)
+        if (out[i] != 0xA5)
+            broken("a refused move wrote to the output");
+    for (i = 0; i < sizes_len; i++)
+        if (sizes[i] != 0xA5A5)
+            broken("a refused move wrote sizes");
+    free(out);
+    free(sizes);
+}
+
+/* Two matrices with losses, and parity in hand in three records: a row at 0, a row at 20 and a column at 1. Missing positions have old
+ * bytes. */
+static struct bench two_matrices(void)
+{
+    struct bench b = new_bench(2 * N, largest, K);
+    uint8_t g[28 + LARGEST];
+    size_t i;
+    opens("opens", &b, L, D, largest, 2 * N, K, 0);
+    for (i = 0; i < 2 * N; i++)
+        if (i != 0 && i != 1 && i != 5 && (i < 20 || i > 22))
+            offers("media", &b, cgv_receiver_media, g, media(g, (uint16_t)(BASE + i)), 0, 0);
+    offers("row 0", &b, cgv_receiver_row, g, parity(g, 1, BASE), 0, 0);
+    offers("row 20", &b, cgv_receiver_row, g, parity(g, 1, (uint16_t)(BASE + 20)), 0, 0);
+    offers("column 1", &b, cgv_receiver_column, g, parity(g, 0, (uint16_t)(BASE + 1)), 0, 0);
+    memset(b.r.store.media + 5 * largest, 0x5A, largest);
+    memset(b.r.store.media + 20 * largest, 0x5B, largest);
+    b.r.store.timestamps[5] = 77, b.r.store.lengths[20] = 99;
+    return b;
+}
+
+/* The stream goes on: parity is released when its first member is behind the base, and what stays in hand rebuilds later on. */
+static void moving(void)
+{
+    struct bench b = two_matrices();
+    uint8_t g[28 + LARGEST];
+    moves("by 1, past a missing packet", &b, 1, 0);
+    if (b.r.window.in_use != 2 || b.r.store.records[0].in_use || !b.r.store.records[1].in_use || !b.r.store.records[2].in_use)
+        broken("the row at 0 is released, and no other");
+    moves("by 1, past another", &b, 1, 0);
+    if (b.r.window.in_use != 1 || b.r.store.records[2].in_use)
+        broken("the column at 1 is released");
+    moves("by 3", &b, 3, 3);
+    offers("a packet behind the base", &b, cgv_receiver_media, g, media(g, (uint16_t)(BASE + 4)), 13, 0);
+    offers("a row with a member there", &b, cgv_receiver_row, g, parity(g, 1, (uint16_t)(BASE + 4)), 13, 0);
+    offers("a new position", &b, cgv_receiver_media, g, media(g, (uint16_t)(BASE + 36)), 0, 0);
+    offers("past the new end", &b, cgv_receiver_media, g, media(g, (uint16_t)(BASE + 37)), 13, 0);
+    offers("media", &b, cgv_receiver_media, g, media(g, (uint16_t)(BASE + 20)), 0, 0);
+    offers("the row in hand rebuilds", &b, cgv_receiver_media, g, media(g, (uint16_t)(BASE + 21)), 0, 1);
+    media(g, (uint16_t)(BASE + 22));
+    if (cgv_receiver_length(&b.r, (uint16_t)(BASE + 22)) != length_of((uint16_t)(BASE + 22)) ||
+        memcmp(cgv_receiver_payload(&b.r, (uint16_t)(BASE + 22)), g + 12, length_of((uint16_t)(BASE + 22))))
+        broken("what was rebuilt after a move");
+    moves("by n - 1", &b, 2 * N - 1, 26);
+    moves("by n", &b, 2 * N, 1);
+    all_zeros(&b.r.store, 2 * N, largest, K);
+    moves("by n, of an empty window", &b, 2 * N, 0);
+    offers("the window goes on", &b, cgv_receiver_media, g, media(g, (uint16_t)(BASE + 5 + 6 * N - 1)), 0, 0);
+    end_bench(&b);
+    b = two_matrices();
+    moves("by n at once", &b, 2 * N, 2 * N - 6);
+    all_zeros(&b.r.store, 2 * N, largest, K);
+    end_bench(&b);
+}
+
+/* Each refusal of a move, and which of two comes first. */
+static void refused_moves(void)
+{
+    struct bench b = two_matrices();
+    const struct cgv_window w = b.r.window;
+    const size_t most = CGV_MOVE_ROOM(2 * N, largest), few = CGV_MOVE_ROOM(3, largest);
+    size_t *const parts[] = {&b.r.store.media_len, &b.r.store.timestamps_len, &b.r.store.lengths_len,
+                             &b.r.store.marks_len, &b.r.store.parity_len, &b.r.store.records_len};
+    size_t i;
+    no_move("by 0", &b, 0, most, 2 * N, 22);
+    no_move("by n + 1", &b, 2 * N + 1, most + 12 + largest, 2 * N + 1, 22);
+    no_move("by the most", &b, SIZE_MAX, most, 2 * N, 22);
+    no_move("22 before a short output", &b, 2 * N + 1, 0, 0, 22);
+    no_move("a short output", &b, 3, few - 1, 3, 4);
+    no_move("sizes too few", &b, 3, few, 2, 4);
+    no_move("no output", &b, 1, 0, 0, 4);
+    for (i = 0; i < sizeof parts / sizeof parts[0]; i++) {
+        *parts[i] -= spare + 1;
+        no_move("a short part", &b, 3, few, 3, 4);
+        no_move("22 before a short part", &b, 0, few, 3, 22);
+        *parts[i] += spare + 1;
+    }
+    b.r.store.marks[31] = 2;
+    no_move("a mark of 2", &b, 3, few, 3, 5);
+    no_move("a short output before disorder", &b, 3, few - 1, 3, 4);
+    b.r.store.marks[31] = 1;
+    b.r.window.present--;
+    no_move("a wrong count", &b, 3, few, 3, 5);
+    b.r.window = w;
+    b.r.window.l = 0;
+    no_move("1 before 22", &b, 0, few, 3, 1);
+    b.r.window = w;
+    b.r.window.p++;
+    no_move("2 before 22", &b, 0, few, 3, 2);
+    b.r.window = w;
+    b.r.window.n = N - 1;
+    no_move("3 before 22", &b, 0, few, 3, 3);
+    b.r.window = w;
+    moves("and then it moves", &b, 3, 1);
+    end_bench(&b);
+}
+
+/* The walk over what left gives nothing that is not there, whatever stands in the window value and the sizes. */
+static void walks(void)
+{
+    static const struct cgv_receiver none;
+    struct cgv_receiver r = none;
+    uint8_t *out = room(3 * (12 + P));
+    uint16_t sizes[3] = {12 + P, 13 + P, 0};
+    struct cgv_left left;
+    r.window.p = P;
+    r.window.base = 1;
+    left = cgv_receiver_left(&r, 3, 0, out, 3 * (12 + P), sizes, 3);
+    if (left.number != 65534 || left.datagram != out || left.len != 12 + P)
+        broken("the first that left, across the wrap");
+    left = cgv_receiver_left(&r, 3, 1, out, 3 * (12 + P), sizes, 3);
+    if (left.number != 65535 || left.datagram || left.len)
+        broken("a size past the room of a packet");
+    left = cgv_receiver_left(&r, 3, 2, out, 3 * (12 + P), sizes, 3);
+    if (left.number != 0 || left.datagram || left.len)
+        broken("one that was missing");
+    sizes[2] = 12 + P;
+    if (cgv_receiver_left(&r, 2, 2, out, 3 * (12 + P), sizes, 3).datagram || cgv_receiver_left(&r, 3, 2, out, 3 * (12 + P) - 1, sizes, 3).datagram ||
+        cgv_receiver_left(&r, 3, 2, out, 3 * (12 + P), sizes, 2).datagram || cgv_receiver_left(&r, SIZE_MAX, SIZE_MAX - 1, out, 3 * (12 + P), sizes, 3).datagram)
+        broken("one that did not leave, or is not in the output");
+    r.window.p = CGV_PAYLOAD_MAX + 1;
+    if (cgv_receiver_left(&r, 3, 0, out, SIZE_MAX, sizes, 3).datagram)
+        broken("a payload size past the largest");
+    r.window.p = SIZE_MAX - 11;
+    if (cgv_receiver_left(&r, 3, 0, out, SIZE_MAX, sizes, 3).datagram)
+        broken("a payload size that wraps");
+    free(out);
+}
+
 /* ---- capture files */
 
 /* The file of the request: one entry for the media port, of two bytes. */
@@ -1060,8 +1279,13 @@ int main(void)
         media_offers();
         parity_offers();
         rebuilds();
+        moving();
+        refused_moves();
+        walks();
         largest = LARGEST;
         rebuilds();
+        moving();
+        refused_moves();
         spoils();
         spoils_in_hand();
         spoils_and_rebuilds();
@@ -1070,11 +1294,11 @@ int main(void)
         largest = P;
         captures();
     }
-    for (number = 0; number <= CGV_BAD_CAPTURE; number++)
-        if (!reached[number] && (number < CGV_NUMBERS || number == CGV_BAD_CAPTURE)) {
+    for (number = 0; number < CGV_NUMBERS; number++)
+        if (!reached[number] && (number <= CGV_MISSING || number >= CGV_BAD_CAPTURE)) {
             fprintf(stderr, "number %u was not reached: %s\n", (unsigned)number, cgv_message(number));
             return 1;
         }
-    printf("C face: %zu calls as they must be, every number from 0 to 17, and 21\n", calls);
+    printf("C face: %zu calls as they must be, every number from 0 to 17, 21 and 22\n", calls);
     return 0;
 }

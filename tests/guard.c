@@ -1,7 +1,7 @@
 /* An attack on the C face. Every buffer has exactly its size and lies against a page without access, at its end or at its start;
  * a call that must not write gets the store, and a refused one the output too, through a mapping that can only be read; the
  * datagram can always only be read. What the library reads or writes past a length, or writes where it must not, ends the run.
- * Some lengths claim more than there is: what is past the need must never be touched. Capture files are written, read in pieces and
+ * Some lengths claim more than there is: what is past the need must never be touched. Windows move, and what left is walked. Capture files are written, read in pieces and
  * walked in the same way, and senders are opened and fed; of a sender the output of which no packet goes out can only be read.
  *
  * Each call is made twice, over plain memory first: answer and every byte must be the same wherever the buffers lie. The second
@@ -22,14 +22,15 @@
 #include <ucontext.h>
 #include <unistd.h>
 
-enum { PAGE = 4096, MOST = 140 * PAGE, CLAIM = 1000, STACK = 64 * 1024, STACK_MAX = 8 * 1024 };
-enum { OPEN, MEDIA, COLUMN, ROW, READ, WRITE_COLUMN, WRITE_ROW, FILE_READ, FILE_HEADER, FILE_ENTRY, FILE_WRITE, SENDER_OPEN, SENDER_MEDIA, KINDS };
-static const char *const names[KINDS] = {"cgv_open", "cgv_media", "cgv_column", "cgv_row", "cgv_read", "cgv_write_column", "cgv_write_row",
+enum { PAGE = 4096, MOST = 141 * PAGE, CLAIM = 1000, STACK = 64 * 1024, STACK_MAX = 8 * 1024 };
+enum { OPEN, MEDIA, COLUMN, ROW, MOVE, READ, WRITE_COLUMN, WRITE_ROW, FILE_READ, FILE_HEADER, FILE_ENTRY, FILE_WRITE, SENDER_OPEN, SENDER_MEDIA, KINDS };
+static const char *const names[KINDS] = {"cgv_open", "cgv_media", "cgv_column", "cgv_row", "cgv_move", "cgv_read", "cgv_write_column", "cgv_write_row",
                                          "cgv_capture_read", "cgv_capture_header", "cgv_capture_entry", "cgv_capture_write",
                                          "cgv_sender_open", "cgv_sender_media"};
 
 static unsigned long long calls, windows, seed, numbers[CGV_NUMBERS], helpers, claims, spoilt;
-static unsigned long long answers[KINDS][CGV_BAD_CAPTURE + 1]; /* calls of capture files and senders */
+static unsigned long long answers[KINDS][CGV_NUMBERS]; /* calls of capture files and senders, and moves */
+static unsigned long long left_behind, released;             /* packets that moves wrote, and parity that they released */
 static unsigned long long senders, went_out[4];              /* media taken in: 1 with a row, 2 with a column, 3 with both, 0 with none */
 static const char *doing = "setting up";
 
@@ -143,6 +144,9 @@ struct call {
     const uint8_t *datagram; /* or a piece of a capture file, or its front */
     size_t len;
     uint16_t number; /* or the index of an entry */
+    size_t by;       /* of a move */
+    uint16_t *sizes;
+    size_t sizes_len;
     struct cgv_reader reader;
     uint8_t *out;
     size_t out_len;
@@ -198,6 +202,7 @@ static void make(struct call *c)
     case MEDIA: c->a = cgv_media(w, c->datagram, c->len, CGV_STORE_ARGUMENTS(c->s)); break;
     case COLUMN: c->a = cgv_column(w, c->datagram, c->len, CGV_STORE_ARGUMENTS(c->s)); break;
     case ROW: c->a = cgv_row(w, c->datagram, c->len, CGV_STORE_ARGUMENTS(c->s)); break;
+    case MOVE: c->a = cgv_move(w, c->by, CGV_STORE_ARGUMENTS(c->s), c->out, c->out_len, c->sizes, c->sizes_len); break;
     case READ: c->a = cgv_read(w, c->number, CGV_STORE_ARGUMENTS(c->s), c->out, c->out_len); break;
     case WRITE_COLUMN: c->a = cgv_write_column(w, c->number, 1, 2, 3, CGV_STORE_ARGUMENTS(c->s), c->out, c->out_len); break;
     case WRITE_ROW: c->a = cgv_write_row(w, c->number, 1, 2, 3, CGV_STORE_ARGUMENTS(c->s), c->out, c->out_len); break;
@@ -284,13 +289,37 @@ static int same_window(struct cgv_window a, struct cgv_window b)
            a.present == b.present && a.in_use == b.in_use;
 }
 
+/* What a move that was done wrote, by the walk of the header: as many packets as the count says, all of them in the output. */
+static void walk_left(const struct call *c, struct cgv_window before)
+{
+    struct cgv_receiver r;
+    size_t i, count = 0;
+    r.window = c->a.window;
+    r.store = c->s;
+    doing = "cgv_receiver_left";
+    for (i = 0; i < c->by + 2; i++) {
+        struct cgv_left one = cgv_receiver_left(&r, c->by, i, c->out, c->out_len, c->sizes, c->sizes_len);
+        if (one.number != cgv_number(&before, i) || !one.datagram != !one.len)
+            fail("a packet that left under another number, or without a length");
+        if (one.datagram && (i >= c->by || one.datagram < c->out || one.datagram + one.len > c->out + c->out_len || one.len < 12 ||
+                             one.datagram[2] != one.number >> 8 || one.datagram[3] != (one.number & 255)))
+            fail("a packet that did not leave, is not in the output, or has another number");
+        count += one.datagram != NULL;
+        helpers++;
+    }
+    if (count != c->a.count || c->a.window.base != (uint16_t)(before.base + c->by))
+        fail("another count than of the packets that left, or another base");
+    left_behind += count;
+    released += before.in_use - c->a.window.in_use;
+}
+
 /* Makes a call in plain memory and then between the pages; both must agree. A window value that was made up may need more than
- * there is, so it is lent no more than that. */
-static struct cgv_answer attack(int kind, struct cgv_window value, uint16_t number, size_t out_len)
+ * there is, so it is lent no more than that. The sizes of a move lie in the place of a sender's longest lengths. */
+static struct cgv_answer attack_by(int kind, struct cgv_window value, uint16_t number, size_t by, size_t out_len, size_t sizes_len)
 {
     static const struct cgv_window zeros = CGV_NO_WINDOW;
     const size_t *len = same_window(value, w) ? lengths : honest;
-    struct part *out = &parts[P_OUT];
+    struct part *out = &parts[P_OUT], *sizes = &parts[P_LONGEST];
     struct call plain, c;
     memset(&plain, 0, sizeof plain);
     doing = names[kind];
@@ -302,28 +331,44 @@ static struct cgv_answer attack(int kind, struct cgv_window value, uint16_t numb
     plain.len = parts[P_DATAGRAM].size;
     plain.out = out->plain;
     plain.out_len = len == honest && out_len > out->size ? out->size : out_len;
+    plain.by = by;
+    plain.sizes = (uint16_t *)(void *)sizes->plain;
+    plain.sizes_len = len == honest && sizes_len > sizes->size / 2 ? sizes->size / 2 : sizes_len;
     plain.s = store_in(2, len);
     c = plain;
     make(&plain);
     c.datagram = parts[P_DATAGRAM].at[1];
     c.s = store_in(plain.a.number || kind >= READ, len);
     c.out = out->at[plain.a.number != 0];
+    c.sizes = (uint16_t *)(void *)sizes->at[plain.a.number != 0];
     make_on_stack(&c);
     if (c.a.number != plain.a.number || c.a.count != plain.a.count || c.a.spoilt != plain.a.spoilt ||
         !same_window(c.a.window, plain.a.window))
         fail("another answer than in plain memory");
     if (c.a.number >= CGV_NUMBERS || (c.a.number && (c.a.count || !same_window(c.a.window, kind == OPEN ? zeros : value))))
         fail("a refusal with a count or another window value");
-    if (c.a.spoilt && (c.a.number || kind == OPEN || kind >= READ))
+    if (c.a.spoilt && (c.a.number || kind == OPEN || kind >= MOVE))
         fail("spoilt by a refusal, or by a call that is no offer");
     numbers[c.a.number]++;
     spoilt += c.a.spoilt;
-    if (kind >= READ && !c.a.number)
+    if (kind >= MOVE && !c.a.number)
         same_as_plain(out);
+    if (kind == MOVE) {
+        answers[MOVE][c.a.number]++;
+        if (!c.a.number) {
+            same_as_plain(sizes);
+            walk_left(&c, value);
+        }
+    }
 #ifdef FUZZ
     met[(kind * CGV_NUMBERS + (int)c.a.number) * 8 + (int)(c.a.spoilt ? 7 : c.a.count < 6 ? c.a.count : 6)] = 1;
 #endif
     return c.a;
+}
+
+static struct cgv_answer attack(int kind, struct cgv_window value, uint16_t number, size_t out_len)
+{
+    return attack_by(kind, value, number, 0, out_len, 0);
 }
 
 /* The helpers of the headers, over the mapping that can only be read: also where parts are shorter than the window claims. */
@@ -509,6 +554,46 @@ static void change(size_t at, int part, uint8_t by)
     parts[part].plain[at] ^= by;
 }
 
+/* How far a move goes: a little as a rule, or anything. */
+static size_t how_far(void)
+{
+    switch (draw(12)) {
+    case 0: return w.n;
+    case 1: return w.n + 1;
+    case 2: return 0;
+    case 3: return edge();
+    case 4:
+    case 5: return pick(1, w.n && w.n <= 400 ? w.n : 400);
+    default: return pick(1, w.l && w.l <= 20 ? w.l : 20);
+    }
+}
+
+/* Lays an output of a move: its need or a little less, lent at its length, or as more than there is. Gives the length that is lent. */
+static size_t lay_for_move(int part, size_t need, size_t element)
+{
+    size_t elements = need > MOST / element ? (size_t)draw(2000) : need;
+    if (one_in(16))
+        elements = one_in(2) ? elements - (elements > 0) : (size_t)draw(elements + 1);
+    place(&parts[part], elements * element, one_in(2));
+    if (elements < need || !one_in(3))
+        return elements;
+    claims++;
+    return elements + (size_t)draw(CLAIM);
+}
+
+/* A move; whether it was done. */
+static int move_step(struct cgv_window value)
+{
+    size_t by = how_far(), p = w.p <= CGV_PAYLOAD_MAX ? w.p : CGV_PAYLOAD_MAX, out_len, sizes_len;
+    struct cgv_answer a;
+    out_len = lay_for_move(P_OUT, by <= 1000 ? CGV_MOVE_ROOM(by, p) : MOST + 1, 1);
+    sizes_len = lay_for_move(P_LONGEST, by, 2);
+    a = attack_by(MOVE, value, 0, by, out_len, sizes_len);
+    if (!a.number)
+        w = a.window;
+    return !a.number;
+}
+
 static void step(void)
 {
     int kind = (int)pick(MEDIA, WRITE_ROW), disorder = one_in(30), part = (int)pick(P_MEDIA, P_RECORDS);
@@ -519,6 +604,15 @@ static void step(void)
     struct cgv_answer a;
     if (kind == COLUMN || (kind == ROW && one_in(2)))
         number = (uint16_t)(w.base + (w.l ? draw(w.l < 400 ? w.l : 400) : 0));
+    if (kind == MOVE && !one_in(3))
+        kind = MEDIA;
+    if (kind == MOVE) {
+        if (disorder)
+            change(at, part, by);
+        if (!move_step(value) && disorder)
+            change(at, part, by);
+        return;
+    }
     if (kind >= READ) {
         size_t p = w.p <= CGV_PAYLOAD_MAX ? w.p : CGV_PAYLOAD_MAX;
         output = (kind == READ ? 12 : 28) + p;
@@ -947,6 +1041,26 @@ static int senders_missed(void)
     return 0;
 }
 
+/* Whether a number of a move was not reached, or nothing left or was released; it says so. */
+static int moves_missed(void)
+{
+    static const uint32_t all[] = {CGV_DONE, CGV_BAD_PROFILE, CGV_BAD_PAYLOAD_SIZE, CGV_BAD_ROOM, CGV_BAD_MOVE, CGV_SHORT_BUFFER, CGV_DISORDER};
+    size_t i;
+    for (i = 0; i < sizeof all / sizeof all[0]; i++)
+        if (!answers[MOVE][all[i]]) {
+            fprintf(stderr, "guard: number %u of a move was not reached\n", (unsigned)all[i]);
+            return 1;
+        }
+    if (!left_behind || !released) {
+        fprintf(stderr, "guard: no packet left in a move, or no parity was released\n");
+        return 1;
+    }
+    return 0;
+}
+
+/* Whether a call on a window has this answer. */
+static int of_window(size_t number) { return number <= CGV_MISSING || number == CGV_BAD_MOVE; }
+
 int main(int argc, char **argv)
 {
     double seconds = argc > 1 ? strtod(argv[1], NULL) : 0;
@@ -973,13 +1087,13 @@ int main(int argc, char **argv)
         clock_gettime(CLOCK_MONOTONIC, &now);
     } while (seconds > 0 ? (double)(now.tv_sec - start.tv_sec) < seconds : calls < 1000000);
     for (i = 0; i < CGV_NUMBERS; i++)
-        rarest = numbers[i] < numbers[rarest] ? i : rarest;
+        rarest = of_window(i) && numbers[i] < numbers[rarest] ? i : rarest;
     for (i = FILE_READ; i <= FILE_WRITE; i++)
         if (!answers[i][CGV_DONE] || !answers[i][CGV_BAD_CAPTURE] || (i == FILE_WRITE && !answers[i][CGV_SHORT_BUFFER])) {
             fprintf(stderr, "guard: an answer of %s was not reached\n", names[i]);
             return 1;
         }
-    if (senders_missed())
+    if (senders_missed() || moves_missed())
         return 1;
     if (!spoilt) {
         fprintf(stderr, "guard: nothing was spoilt\n");
@@ -994,10 +1108,11 @@ int main(int argc, char **argv)
         return 1;
     }
     printf("guard: %llu calls over %llu windows, %llu lengths that claimed more than there is, %llu helpers: nothing touched that must not be;\n"
-           "  every number from 0 to 17, the rarest, %zu, %llu times; %llu parity packets spoilt; %llu capture files written, %llu readings not whole;\n"
+           "  every number from 0 to 17 and 22, the rarest, %zu, %llu times; %llu moves left %llu packets behind and released %llu parity packets;\n"
+           "  %llu parity packets spoilt; %llu capture files written, %llu readings not whole;\n"
            "  %llu senders took %llu media packets in, %llu of them with a row, %llu with a column, %llu with both, and refused %llu others;\n"
            "  a call needed %zu bytes of stack at most\n",
-           calls, windows, claims, helpers, rarest, numbers[rarest], spoilt, answers[FILE_WRITE][CGV_DONE], answers[FILE_READ][CGV_BAD_CAPTURE],
+           calls, windows, claims, helpers, rarest, numbers[rarest], answers[MOVE][CGV_DONE], left_behind, released, spoilt, answers[FILE_WRITE][CGV_DONE], answers[FILE_READ][CGV_BAD_CAPTURE],
            senders, answers[SENDER_MEDIA][CGV_DONE], went_out[1], went_out[2], went_out[3], refused_by_senders(), stack_used());
     return 0;
 }

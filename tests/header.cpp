@@ -51,6 +51,20 @@ static bool capture()
            cgv_capture_read(start, file, 21).number == CGV_BAD_CAPTURE;
 }
 
+// A window that moves on by one: a packet leaves, and its number is behind the base.
+static bool moves()
+{
+    uint8_t datagram[CGV_MEDIA_HEADER + 188] = {0x80, 33}, out[CGV_MOVE_ROOM(1, 188)];
+    uint16_t size = 0;
+    if (cgv_desk_media(&desk, &receiver, datagram, sizeof datagram).number != CGV_DONE ||
+        cgv_receiver_move(&receiver, 17, out, sizeof out, &size, 1).number != CGV_BAD_MOVE ||
+        cgv_desk_move(&desk, &receiver, 1, out, sizeof out, &size, 1).count != 1)
+        return false;
+    const cgv_left left = cgv_receiver_left(&receiver, 1, 0, out, sizeof out, &size, 1);
+    return left.number == 0 && left.datagram == out && left.len == sizeof out && receiver.window.base == 1 &&
+           desk.counters.handed_out == 1 && cgv_desk_media(&desk, &receiver, datagram, sizeof datagram).number == CGV_OUTSIDE;
+}
+
 int main()
 {
     const uint8_t datagram[12] = {0x80, 33};
@@ -72,5 +86,7 @@ int main()
         return 6;
     if (!sends())
         return 7;
+    if (!moves())
+        return 8;
     return cgv_counters_line(&desk.counters, line, sizeof line) == 0;
 }
