@@ -125,20 +125,21 @@
  *     static uint8_t out[CGV_MOVE_ROOM(100, 1316)];
  *     static uint16_t sizes[100];
  *
- *     if (cgv_media_number(datagram, len, &number))      (before a media packet is offered)
- *         while (cgv_position(&r.window, number) >= r.window.n &&
- *                cgv_position(&r.window, number) < 2 * r.window.n &&
- *                cgv_receiver_move(&r, 100, out, sizeof out, sizes, 100).number == CGV_DONE)
- *             for (i = 0; i < 100; i++) {
- *                 struct cgv_left left =
- *                     cgv_receiver_left(&r, 100, i, out, sizeof out, sizes, 100);
- *                 if (left.datagram)
- *                     send_on(left.datagram, left.len);
- *                 else
- *                     given_up(left.number);
- *             }
- *     cgv_receiver_media(&r, datagram, len);
+ *     (before each datagram is offered, with CGV_PORT_MEDIA, _COLUMN or _ROW)
+ *     while (cgv_receiver_ahead(&r, port, datagram, len) &&
+ *            cgv_receiver_move(&r, 100, out, sizeof out, sizes, 100).number == CGV_DONE)
+ *         for (i = 0; i < 100; i++) {
+ *             struct cgv_left left =
+ *                 cgv_receiver_left(&r, 100, i, out, sizeof out, sizes, 100);
+ *             if (left.datagram)
+ *                 send_on(left.datagram, left.len);
+ *             else
+ *                 given_up(left.number);
+ *         }
  *
+ *   When: for a packet ahead of the window, and also for parity with a member there. The
+ *   last packet of a row may be lost, and then the row's parity is the first to speak of it;
+ *   a window that moves for media alone refuses that parity with 13.
  *   How far: by L x D, a matrix at a time, or by 1, which costs more time a packet and lets
  *   each packet out when the n-th after it comes. How large n: 2 x L x D where the window
  *   moves by 1, or by L x D from a base at which a matrix starts; 2 x L x D + by from any
@@ -146,9 +147,9 @@
  *   What is behind the base: a packet that comes later than that meets 13, and so does
  *   parity with a member there. Parity in hand with a member there is released by the move,
  *   since it could rebuild nothing of the window any more.
- *   How far ahead: a number far ahead of the window may be damaged or forged, and moving up
- *   to it gives up all that the window waits for. So move for a packet just ahead (here,
- *   less than n), and open again where the stream itself has jumped.
+ *   How far ahead: a number far ahead of the window may be forged, and moving up to it gives
+ *   up all that the window waits for. cgv_receiver_ahead asks for less than n positions past
+ *   its end; where the stream itself has jumped further, open again.
  *
  * Sending (examples/send.c)
  *   A sender takes media packets one by one, in order, and keeps running parity in lent room
@@ -684,6 +685,27 @@ struct cgv_left {
     const uint8_t *datagram;
     size_t len;
 };
+
+/* Whether the window has to move on for a datagram of a port (CGV_PORT_MEDIA, CGV_PORT_COLUMN or
+ * CGV_PORT_ROW): its number, or that of the last packet of its group, is past the window's end by
+ * less than n. 0 where refusals 6 to 8 are its answer; nothing else of it is looked at. */
+static inline int cgv_receiver_ahead(const struct cgv_receiver *r, uint8_t port,
+                                     const uint8_t *datagram, size_t len)
+{
+    const struct cgv_window *w = &r->window;
+    int media = port == CGV_PORT_MEDIA;
+    size_t number, position;
+    if (len < CGV_CAST(size_t, media ? CGV_MEDIA_HEADER : CGV_PARITY_HEADER) ||
+        datagram[0] != 0x80 || datagram[1] != (media ? 33 : 96))
+        return 0;
+    if (media)
+        number = CGV_CAST(size_t, datagram[2] << 8 | datagram[3]);
+    else
+        number = CGV_CAST(size_t, datagram[12] << 8 | datagram[13]) +
+                 (port == CGV_PORT_ROW ? w->l - 1 : (w->d - 1) * w->l);
+    position = (number - w->base) & 65535u;
+    return position >= w->n && position - w->n < w->n;
+}
 
 /* Packet i, from 0, of those that the last move left behind, which was by so many positions and
  * wrote to out and sizes. NULL where it was missing, or out or sizes have no packet i. */

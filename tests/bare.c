@@ -1,5 +1,5 @@
 /* Calls the card of tests/bare.rs: a packet taken in, an opening and a made-up window value refused, the line of its counters; a
- * capture file, read and written again, whole and cut; and a sender that gives a row, is refused, and takes a made-up value. */
+ * window that moves on; a capture file, read and written again, whole and cut; and a sender that gives a row, is refused, and takes a made-up value. */
 #include "congaveil.h"
 #include <stdbool.h>
 #include <stdio.h>
@@ -34,6 +34,21 @@ int bare_capture(struct file *file, size_t cut, size_t index);
 int bare_sender(struct link *link, const size_t *set_up, const struct cgv_sender *made_up, bool opens, uint16_t number);
 int bare_card(struct card *card, const size_t *set_up, const struct cgv_window *made_up, bool opens, uint16_t number);
 
+int bare_move(struct card *card, struct cgv_window *window, size_t by, uint8_t *out, uint16_t *sizes);
+
+/* By two, of which the second is there; then by each number that is refused, and a made-up window. */
+static int moves(struct card *card)
+{
+    struct cgv_window w = {65530, 1, 4, 4, 188, 16, 8, 1, 0}, huge = {0, 0, 4, 4, SIZE_MAX, 16, 8, 0, 0};
+    static uint8_t out[400];
+    uint16_t sizes[2] = {9, 9};
+    if (bare_move(card, &w, 0, out, sizes) != -22 || bare_move(card, &w, SIZE_MAX, out, sizes) != -22 || bare_move(card, &w, 3, out, sizes) != -4 ||
+        bare_move(card, &huge, 1, out, sizes) != -2 || sizes[0] != 9)
+        return 0;
+    return bare_move(card, &w, 2, out, sizes) == 200 && w.base == 65532 && w.present == 0 && sizes[0] == 0 && sizes[1] == 200 &&
+           out[200] == 0x80 && out[203] == 0xfb && card->marks[1] == 0;
+}
+
 /* A row of four across the wrap, of which each byte of the payload cancels out; then each way to be refused. */
 static int sends(void)
 {
@@ -62,9 +77,13 @@ int main(void)
     card.datagram[0] = 0x80, card.datagram[1] = 33, card.datagram[2] = 0xff, card.datagram[3] = 0xfb;
     card.len = 200;
     answers[0] = bare_card(&card, good, &huge, true, 65531);
-    if (strcmp(card.line, "received 1, recovered 0, late 0, missing 15, alarms 0, spoilt 0, refused 2 (no. 8: 2)") || card.marks[1] != 1 ||
+    if (strcmp(card.line, "received 1, recovered 0, late 0, missing 15, given up 0, alarms 0, spoilt 0, refused 2 (no. 8: 2)") || card.marks[1] != 1 ||
         card.lengths[1] != 188) {
         fprintf(stderr, "bare: %s\n", card.line);
+        return 1;
+    }
+    if (!moves(&card)) {
+        fprintf(stderr, "bare: the move\n");
         return 1;
     }
     answers[1] = bare_card(&card, bad, &huge, true, 0);

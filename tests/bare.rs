@@ -4,7 +4,9 @@
 #![no_std]
 
 use congaveil::capture::{self, Capture, Port, Reader};
-use congaveil::{media_number, parity_snbase, Counters, Desk, How, Lent, Outer, Receiver, Record, Refusal, SetUp, Taken, Window};
+use congaveil::{
+    media_number, move_room, parity_snbase, Counters, Desk, How, Lent, Outer, Receiver, Record, Refusal, SetUp, Taken, Window,
+};
 use congaveil::{room_for, Arrangement, LentRoom, ParityStream, ParityStreams, Sender, SenderSetUp, SenderValue};
 use core::fmt::Write;
 
@@ -99,6 +101,7 @@ pub extern "C" fn bare_card(card: &mut Card, set_up: &[usize; 6], made_up: &Wind
     let (told, rest) = desk
         .rebuilt(&receiver)
         .fold((0, 0usize), |(told, sum), p| (i32::wrapping_add(told, 1), p.payload.len() ^ sum ^ usize::from(p.number)));
+    let ahead = [Port::Media, Port::Column, Port::Row].iter().fold(false, |ahead, port| ahead ^ receiver.ahead(*port, datagram));
     let here = receiver.packets().fold(0, |sum, p| sum ^ p.payload.len() ^ p.timestamp as usize);
     let seen = receiver.payload(number).map_or(0, <[u8]>::len) ^ receiver.missing().fold(0, |sum, number| sum ^ usize::from(number));
     let numbers = media_number(datagram).unwrap_or(0) ^ parity_snbase(datagram).unwrap_or(0);
@@ -107,9 +110,16 @@ pub extern "C" fn bare_card(card: &mut Card, set_up: &[usize; 6], made_up: &Wind
     let counted = sum.recovered() ^ sum.missing() ^ sum.refused() ^ sum.refused_with(Refusal::Outside);
     let how = desk.how(&receiver, number) == How::Rebuilt || receiver.has(number) || receiver.position(number) == receiver.window().n;
     let _ = write!(Line { out: line, len: 0 }, "{sum}");
+    let mut sizes = [0; 1];
+    let left = match desk.advance(&mut receiver, usize::from(number), &mut out, &mut sizes) {
+        Ok(left) => {
+            left.len() ^ left.handed_out() ^ left.fold(0, |sum, one| sum ^ one.datagram.map_or(0, <[u8]>::len) ^ usize::from(one.number))
+        }
+        Err(refusal) => refusal.number() as usize ^ move_room(receiver.window().n, usize::from(number)),
+    };
     let busy = receiver.present() ^ receiver.in_hand() ^ receiver.into_parts().0.k;
     // Written where the compiler may not leave it out, and so nothing above either.
-    let mut kept = (rest, here, seen, numbers, counted, how, busy);
+    let mut kept = (rest, here, seen, numbers, counted, how, busy, left, ahead);
     unsafe { core::ptr::write_volatile(&mut kept, kept) };
     answers.iter().fold(told, |last, answer| answer.map_or_else(negative, |_| last))
 }
@@ -142,6 +152,18 @@ pub extern "C" fn bare_capture(file: &mut File, cut: usize, index: usize) -> i32
     let (ports, lengths) = (ports.get(..count).unwrap_or(&[]), lengths.get(..count).unwrap_or(&[]));
     let written = capture::write(&capture.set_up(), ports, lengths, bodies.get(..len).unwrap_or(&[]), &mut file.again);
     written.map_or_else(negative, |len| len as i32)
+}
+
+/// Moves a window that may be made up on by any number; how many bytes left it, or the refusal as a negative number.
+#[no_mangle]
+pub extern "C" fn bare_move(card: &mut Card, window: &mut Window, by: usize, out: &mut [u8; 400], sizes: &mut [u16; 2]) -> i32 {
+    let Card { media, timestamps, lengths, marks, parity, records, .. } = card;
+    let mut receiver = Receiver::from_parts(*window, Lent { media, timestamps, lengths, marks, parity, records });
+    let mut desk = Desk::new();
+    let answer = desk.advance(&mut receiver, by, out, sizes);
+    let bytes = answer.map(|left| left.fold(0usize, |sum, one| sum.wrapping_add(one.datagram.map_or(0, <[u8]>::len))));
+    *window = *receiver.window();
+    bytes.map_or_else(negative, |bytes| bytes as i32)
 }
 
 /// Opens a sender with any numbers, or takes any sender value, and offers a datagram, changing its number, four times; how many bytes went

@@ -893,6 +893,47 @@ static void refused_moves(void)
     end_bench(&b);
 }
 
+/* Which datagrams a window moves on for: those that are past its end by less than n, at their number or with the last of their group. */
+static void ahead(void)
+{
+    static const struct {
+        uint16_t position;
+        int is;
+    } cases[] = {{0, 0}, {N - 1, 0}, {N, 1}, {2 * N - 1, 1}, {2 * N, 0}, {65535, 0}};
+    struct cgv_receiver r;
+    uint8_t g[28 + P];
+    size_t i, len;
+    memset(&r, 0, sizeof r);
+    media(g, BASE);
+    if (cgv_receiver_ahead(&r, CGV_PORT_MEDIA, g, 12 + P))
+        broken("no window is behind");
+    r.window.base = BASE, r.window.l = L, r.window.d = D, r.window.n = N;
+    for (i = 0; i < sizeof cases / sizeof cases[0]; i++) {
+        uint16_t number = (uint16_t)(BASE + cases[i].position);
+        len = media(g, number);
+        if (cgv_receiver_ahead(&r, CGV_PORT_MEDIA, g, len) != cases[i].is || cgv_receiver_ahead(&r, CGV_PORT_ROW, g, len))
+            broken("media ahead of the window");
+        len = parity(g, 1, (uint16_t)(number - (L - 1)));
+        if (cgv_receiver_ahead(&r, CGV_PORT_ROW, g, len) != cases[i].is || cgv_receiver_ahead(&r, CGV_PORT_MEDIA, g, len))
+            broken("a row ahead of the window");
+        len = parity(g, 0, (uint16_t)(number - (D - 1) * L));
+        if (cgv_receiver_ahead(&r, CGV_PORT_COLUMN, g, len) != cases[i].is)
+            broken("a column ahead of the window");
+    }
+    media(g, (uint16_t)(BASE + N));
+    if (!cgv_receiver_ahead(&r, CGV_PORT_MEDIA, g, 12) || cgv_receiver_ahead(&r, CGV_PORT_MEDIA, g, 11))
+        broken("a media packet too short to be judged");
+    parity(g, 1, (uint16_t)(BASE + N));
+    if (!cgv_receiver_ahead(&r, CGV_PORT_ROW, g, 28) || cgv_receiver_ahead(&r, CGV_PORT_ROW, g, 27))
+        broken("a parity packet too short to be judged");
+    g[0] ^= 0x10;
+    if (cgv_receiver_ahead(&r, CGV_PORT_ROW, g, 28))
+        broken("another RTP header");
+    g[0] ^= 0x10, g[1] ^= 0x80;
+    if (cgv_receiver_ahead(&r, CGV_PORT_ROW, g, 28))
+        broken("a marker");
+}
+
 /* The walk over what left gives nothing that is not there, whatever stands in the window value and the sizes. */
 static void walks(void)
 {
@@ -1282,6 +1323,7 @@ int main(void)
         moving();
         refused_moves();
         walks();
+        ahead();
         largest = LARGEST;
         rebuilds();
         moving();

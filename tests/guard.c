@@ -30,7 +30,7 @@ static const char *const names[KINDS] = {"cgv_open", "cgv_media", "cgv_column", 
 
 static unsigned long long calls, windows, seed, numbers[CGV_NUMBERS], helpers, claims, spoilt;
 static unsigned long long answers[KINDS][CGV_NUMBERS]; /* calls of capture files and senders, and moves */
-static unsigned long long left_behind, released;             /* packets that moves wrote, and parity that they released */
+static unsigned long long left_behind, released, aheads;     /* packets that moves wrote, parity that they released, datagrams ahead */
 static unsigned long long senders, went_out[4];              /* media taken in: 1 with a row, 2 with a column, 3 with both, 0 with none */
 static const char *doing = "setting up";
 
@@ -313,6 +313,20 @@ static void walk_left(const struct call *c, struct cgv_window before)
     released += before.in_use - c->a.window.in_use;
 }
 
+/* A datagram that the window would move on for is refused by it: with 13, or before that for what a move does not judge. */
+static void check_ahead(int kind, struct cgv_window value, uint32_t number)
+{
+    struct cgv_receiver r;
+    memset(&r, 0, sizeof r);
+    r.window = value;
+    helpers++;
+    if (!cgv_receiver_ahead(&r, (uint8_t)(kind - MEDIA + CGV_PORT_MEDIA), parts[P_DATAGRAM].at[1], parts[P_DATAGRAM].size))
+        return;
+    aheads++;
+    if (number == CGV_DONE || (number > CGV_DISORDER && number < CGV_BAD_LENGTH) || number > CGV_OUTSIDE)
+        fail("a datagram ahead of the window is taken in, or is none of its port");
+}
+
 /* Makes a call in plain memory and then between the pages; both must agree. A window value that was made up may need more than
  * there is, so it is lent no more than that. The sizes of a move lie in the place of a sender's longest lengths. */
 static struct cgv_answer attack_by(int kind, struct cgv_window value, uint16_t number, size_t by, size_t out_len, size_t sizes_len)
@@ -337,6 +351,8 @@ static struct cgv_answer attack_by(int kind, struct cgv_window value, uint16_t n
     plain.s = store_in(2, len);
     c = plain;
     make(&plain);
+    if (kind > OPEN && kind < MOVE)
+        check_ahead(kind, value, plain.a.number);
     c.datagram = parts[P_DATAGRAM].at[1];
     c.s = store_in(plain.a.number || kind >= READ, len);
     c.out = out->at[plain.a.number != 0];
@@ -1051,8 +1067,8 @@ static int moves_missed(void)
             fprintf(stderr, "guard: number %u of a move was not reached\n", (unsigned)all[i]);
             return 1;
         }
-    if (!left_behind || !released) {
-        fprintf(stderr, "guard: no packet left in a move, or no parity was released\n");
+    if (!left_behind || !released || !aheads) {
+        fprintf(stderr, "guard: no packet left in a move, no parity was released, or no datagram was ahead\n");
         return 1;
     }
     return 0;

@@ -1,12 +1,12 @@
-use crate::{media_number, Packet, Receiver, Refusal, Store, Taken, NUMBERS, POSITIONS_MAX};
+use crate::{media_number, Leaving, Packet, Receiver, Refusal, Store, Taken, NUMBERS, POSITIONS_MAX};
 use core::{fmt, ops::AddAssign};
 
 /// Sums over all windows that a [`Desk`] was begun with. They only grow, so a rate is the difference of two readings.
 ///
-/// As text they are one line: `received 169, recovered 21, late 0, missing 10, alarms 0, spoilt 0, refused 26 (no. 13: 26)`.
+/// As text they are one line: `received 169, recovered 21, late 0, missing 10, given up 0, alarms 0, spoilt 0, refused 26 (no. 13: 26)`.
 #[derive(Clone, Copy, Debug, Default, PartialEq, Eq)]
 pub struct Counters {
-    /// Packets to come, when the windows were opened.
+    /// Packets to come, when windows were opened and moved.
     pub positions: u64,
     /// Media packets that arrived, each once, late ones too.
     pub received: u64,
@@ -18,7 +18,11 @@ pub struct Counters {
     pub alarms: u64,
     /// Parity packets released because the packet that they gave cannot be right.
     pub spoilt: u64,
-    /// Offers by answer: the first is of those taken in, the others of those refused with that number.
+    /// Packets that were present when their window moved on.
+    pub handed_out: u64,
+    /// Packets that were missing then: lost for good.
+    pub given_up: u64,
+    /// By answer: the first is of offers taken in, the others of offers and moves refused with that number.
     pub answers: [u64; NUMBERS],
 }
 
@@ -29,19 +33,20 @@ impl Counters {
         self.rebuilt.saturating_sub(self.late)
     }
 
-    /// Neither arrived nor rebuilt, up to now.
+    /// Neither arrived nor rebuilt up to now, and not given up: what the window waits for, and what earlier windows lacked when they were
+    /// opened again.
     #[must_use]
     pub fn missing(&self) -> u64 {
-        self.positions.saturating_sub(self.received.wrapping_add(self.recovered()))
+        self.positions.saturating_sub(self.received.wrapping_add(self.recovered()).wrapping_add(self.given_up))
     }
 
-    /// Offers that were refused.
+    /// Offers and moves that were refused.
     #[must_use]
     pub fn refused(&self) -> u64 {
         self.answers.iter().skip(1).fold(0, |sum, count| sum.wrapping_add(*count))
     }
 
-    /// How many offers were refused with this.
+    /// How many offers and moves were refused with this.
     #[must_use]
     pub fn refused_with(&self, refusal: Refusal) -> u64 {
         self.answers.get(refusal.number() as usize).copied().unwrap_or(0)
@@ -56,6 +61,8 @@ impl AddAssign for Counters {
         self.late = self.late.wrapping_add(other.late);
         self.alarms = self.alarms.wrapping_add(other.alarms);
         self.spoilt = self.spoilt.wrapping_add(other.spoilt);
+        self.handed_out = self.handed_out.wrapping_add(other.handed_out);
+        self.given_up = self.given_up.wrapping_add(other.given_up);
         for (sum, count) in self.answers.iter_mut().zip(other.answers) {
             *sum = sum.wrapping_add(count);
         }
@@ -65,7 +72,8 @@ impl AddAssign for Counters {
 impl fmt::Display for Counters {
     fn fmt(&self, f: &mut fmt::Formatter) -> fmt::Result {
         write!(f, "received {}, recovered {}, late {}, ", self.received, self.recovered(), self.late)?;
-        write!(f, "missing {}, alarms {}, spoilt {}, refused {}", self.missing(), self.alarms, self.spoilt, self.refused())?;
+        write!(f, "missing {}, given up {}, ", self.missing(), self.given_up)?;
+        write!(f, "alarms {}, spoilt {}, refused {}", self.alarms, self.spoilt, self.refused())?;
         let mut before = " (";
         for (number, count) in (0..NUMBERS).zip(self.answers).skip(1).filter(|(_, count)| *count > 0) {
             write!(f, "{before}no. {number}: {count}")?;
@@ -90,7 +98,7 @@ pub enum How {
 
 /// What a card keeps beside a receiver, to tell which packets were rebuilt and to count for the operator.
 ///
-/// It copies no marks and costs a byte written a media packet; positions are searched only after a rebuild.
+/// It copies no marks and costs a byte written a media packet and n bytes a move; positions are searched only after a rebuild.
 ///
 /// ```
 /// # #[cfg(feature = "std")]
@@ -214,6 +222,27 @@ impl Desk {
         answer
     }
 
+    /// Moves the window on, and counts. Answers what [`Receiver::advance`] does. Packets that were rebuilt and not told are not told after
+    /// they have left: they are in the output.
+    ///
+    /// # Errors
+    ///
+    /// Those of [`Receiver::advance`].
+    pub fn advance<'o, S: Store>(
+        &mut self,
+        receiver: &mut Receiver<S>,
+        by: usize,
+        out: &'o mut [u8],
+        sizes: &'o mut [u16],
+    ) -> Result<Leaving<'o>, Refusal> {
+        let answer = receiver.advance(by, out, sizes);
+        match &answer {
+            Ok(left) => self.moved(left.clone(), receiver.window().n),
+            Err(refusal) => self.answered(refusal.number()),
+        }
+        answer
+    }
+
     /// The packets that were rebuilt since this was last asked, in order of position. A packet that arrived before it was
     /// told is not told. Ask after each offer, or less often; what is not taken from the iterator is told the next time.
     pub fn rebuilt<'d, 'r, S: Store>(&'d mut self, receiver: &'r Receiver<S>) -> Rebuilt<'d, 'r, S> {
@@ -232,11 +261,35 @@ impl Desk {
         }
     }
 
-    fn book(&mut self, answer: Result<Taken, Refusal>) {
-        let number = answer.map_or_else(Refusal::number, |_| 0);
+    fn answered(&mut self, number: u32) {
         if let Some(count) = self.counters.answers.get_mut(number as usize) {
             add(count, 1);
         }
+    }
+
+    /// These left a window of n positions: how the others came moves down.
+    fn moved(&mut self, left: Leaving, n: usize) {
+        let (by, handed_out) = (left.len(), left.handed_out());
+        add(&mut self.counters.positions, by as u64);
+        add(&mut self.counters.handed_out, handed_out as u64);
+        add(&mut self.counters.given_up, by.saturating_sub(handed_out) as u64);
+        for (how, left) in self.how.iter().zip(left) {
+            if *how == How::Missing && left.datagram.is_some() {
+                self.untold = self.untold.saturating_sub(1);
+            }
+        }
+        self.from = self.from.saturating_sub(by);
+        for position in 0..n.min(POSITIONS_MAX) {
+            let from = position.saturating_add(by);
+            let moved = if from < n { self.how.get(from).copied() } else { None };
+            if let Some(how) = self.how.get_mut(position) {
+                *how = moved.unwrap_or(How::Missing);
+            }
+        }
+    }
+
+    fn book(&mut self, answer: Result<Taken, Refusal>) {
+        self.answered(answer.map_or_else(Refusal::number, |_| 0));
         let Taken { rebuilt, spoilt } = answer.unwrap_or_default();
         add(&mut self.counters.spoilt, spoilt as u64);
         if rebuilt > 0 {

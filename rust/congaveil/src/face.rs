@@ -210,6 +210,27 @@ extern "C" {
         records_len: usize,
     ) -> Answer;
 
+    pub fn cgv_move(
+        w: Window,
+        by: usize,
+        media: *mut u8,
+        media_len: usize,
+        timestamps: *mut u32,
+        timestamps_len: usize,
+        lengths: *mut u16,
+        lengths_len: usize,
+        marks: *mut u8,
+        marks_len: usize,
+        parity: *mut u8,
+        parity_len: usize,
+        records: *mut Record,
+        records_len: usize,
+        out: *mut u8,
+        out_len: usize,
+        sizes: *mut u16,
+        sizes_len: usize,
+    ) -> Answer;
+
     pub fn cgv_read(
         w: Window,
         number: u16,

@@ -29,6 +29,55 @@
 //! # fn main() {}
 //! ```
 //!
+//! The window moves with the stream: [`Receiver::advance`] takes its base on, and hands out the packets that it leaves behind. A window
+//! that goes on for ever:
+//!
+//! ```
+//! # #[cfg(feature = "std")]
+//! # fn main() -> Result<(), congaveil::Refusal> {
+//! use congaveil::{capture::Port, move_room, Receiver, Refusal, SetUp};
+//!
+//! const BY: usize = 16; // L × D, a matrix at a time
+//! let set_up = SetUp { base: 65_530, l: 4, d: 4, payload: 188, positions: 48, records: 24, ssrc: 1 };
+//! let mut receiver = Receiver::open(set_up)?;
+//! let (mut out, mut sizes) = (vec![0; move_room(BY, 188)], [0; BY]);
+//!
+//! # let (mut handed_out, mut given_up) = (0, 0);
+//! # let stream = (0..200u16).filter(|i| *i != 7).map(|i| {
+//! #     let mut datagram = vec![0x80, 33, 0, 0, 0, 0, 0, 0, 0, 0, 0, 0];
+//! #     datagram[2..4].copy_from_slice(&65_530u16.wrapping_add(i).to_be_bytes());
+//! #     datagram.resize(200, 7);
+//! #     datagram
+//! # });
+//! for datagram in stream {
+//!     while receiver.ahead(Port::Media, &datagram) { // and so for the two parity ports
+//!         for left in receiver.advance(BY, &mut out, &mut sizes)? {
+//!             match left.datagram {
+//!                 Some(datagram) => println!("{} goes on, {} bytes", left.number, datagram.len()),
+//!                 None => println!("{} is given up", left.number),
+//!             }
+//! #           handed_out += usize::from(left.datagram.is_some());
+//! #           given_up += usize::from(left.datagram.is_none());
+//!         }
+//!     }
+//!     receiver.media(&datagram)?;
+//! }
+//! # assert_eq!((handed_out, given_up, receiver.window().base), (159, 1, 65_530u16.wrapping_add(160)));
+//! assert_eq!(receiver.advance(0, &mut out, &mut sizes).err(), Some(Refusal::BadMove));
+//! # Ok(())
+//! # }
+//! # #[cfg(not(feature = "std"))]
+//! # fn main() {}
+//! ```
+//!
+//! When: for a packet ahead of the window, and also for parity with a member there. The last packet of a row may be lost, and then the
+//! row's parity is the first to speak of it; a window that moves for media alone refuses that parity with `Outside`. A number that is n
+//! positions or more past the window's end may be forged: where the stream itself has jumped so far, open again.
+//!
+//! How large: 2 × L × D positions where the window moves by 1, or by L × D from a base at which a matrix starts; 2 × L × D and as many
+//! again as it moves by, from any base. Senders put a matrix's column parity on the line while the next matrix goes by, and parity that
+//! has a member behind the base is of no use any more: in hand it is released, and later it meets `Outside`, as packets do.
+//!
 //! A [`Desk`] beside the receiver tells which packets were rebuilt, and counts for the operator. [`capture`] saves what came in to a
 //! file, and reads such files.
 //!
@@ -40,17 +89,18 @@
 //! - [`Taken`] has the packets rebuilt, and the parity packets that were spoilt: what they gave cannot be right. They are
 //!   released, and the packet stays missing unless other parity gives it. Unaltered traffic never shows one: parity was
 //!   damaged or forged, or a media packet of its group was, which may have gone to air.
-//! - [`Outside`](Refusal::Outside), [`Repeat`](Refusal::Repeat) and [`Full`](Refusal::Full) are routine: of another
-//!   window, already there, no room for it now. A sender's `Outside` is a gap in what is to be sent: [`Sender::reopen`].
+//! - [`Outside`](Refusal::Outside), [`Repeat`](Refusal::Repeat) and [`Full`](Refusal::Full) are routine: behind the window or
+//!   ahead of it, already there, no room for it now. A sender's `Outside` is a gap in what is to be sent: [`Sender::reopen`].
 //! - [`Differs`](Refusal::Differs) on media is **the alarm**: a packet already marked present differs from the one that
 //!   arrived. One of the two is wrong, and the one in the store may have gone to air.
 //! - Refusals 6 to 12 are of a datagram of another kind, port or profile, or of a damaged one; 1 to 5 are a fault in the
-//!   card: set-up, buffers, or a store or room that somebody changed. 21 is of a capture file alone.
+//!   card: set-up, buffers, or a store or room that somebody changed; so is 22, a move by 0 or by more positions than there are. 21 is
+//!   of a capture file alone.
 //!
 //! # Without std
 //!
-//! `default-features = false` leaves `std` out, and with it `Owned`, `OwnedRoom`, `Receiver::open`, `Receiver::packet`, `Sender::open` and
-//! `capture::to_vec`; everything else works over a [`Lent`] store and a [`LentRoom`]. Nothing is allocated then.
+//! `default-features = false` leaves `std` out, and with it `Owned`, `OwnedRoom`, `Receiver::open`, `Receiver::packet`, `Receiver::advance_to_vec`,
+//! `Sender::open` and `capture::to_vec`; everything else works over a [`Lent`] store and a [`LentRoom`]. Nothing is allocated then.
 //!
 //! # Threads
 //!
@@ -80,7 +130,7 @@ mod store;
 pub use datagram::{media_number, parity_snbase};
 pub use desk::{Counters, Desk, How, Rebuilt};
 pub use face::{SenderValue, Window};
-pub use receiver::{Outer, Packet, Receiver, SetUp, Taken};
+pub use receiver::{move_room, Leaving, Left, Outer, Packet, Receiver, SetUp, Taken};
 pub use refusal::Refusal;
 #[cfg(feature = "std")]
 pub use room::OwnedRoom;
@@ -108,5 +158,6 @@ pub const PAYLOAD_MAX: usize = 7 * 204;
 pub const POSITIONS_MAX: usize = 400;
 /// The most records that a window may have.
 pub const RECORDS_MAX: usize = 128;
-/// How many answers the calls of a receiver have: 0, and the refusals from 1 to 17. The size of a table of them; 21 is none of these.
-pub const NUMBERS: usize = 18;
+/// The size of a table of answers by their number: above every number of this library. The calls of a receiver answer 0, 1 to 17 and 22, a
+/// sender some of these; 18 to 20 are not used, and 21 is of capture files alone.
+pub const NUMBERS: usize = 23;

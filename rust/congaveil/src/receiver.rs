@@ -1,8 +1,8 @@
-use crate::{face, Refusal, Store, Window};
+use crate::{capture::Port, face, media_number, parity_snbase, Refusal, Store, Window, MEDIA_HEADER};
 #[cfg(feature = "std")]
-use crate::{Owned, MEDIA_HEADER, PAYLOAD_MAX};
+use crate::{Owned, PAYLOAD_MAX};
 #[cfg(feature = "std")]
-use std::vec::Vec;
+use std::{vec, vec::Vec};
 
 /// A call with the six parts of a store lent between its other arguments: to be written (`as_mut_ptr`) or only read (`as_ptr`).
 macro_rules! lend {
@@ -79,6 +79,63 @@ pub struct Packet<'a> {
     pub payload: &'a [u8],
 }
 
+/// Bytes that a move by so many positions needs of its output, in a window of payloads up to `p`.
+#[must_use]
+pub const fn move_room(by: usize, p: usize) -> usize {
+    by.saturating_mul(MEDIA_HEADER.saturating_add(p))
+}
+
+/// A packet that left the window.
+#[derive(Clone, Copy, Debug, PartialEq, Eq)]
+pub struct Left<'a> {
+    /// Its sequence number.
+    pub number: u16,
+    /// Its datagram, [`MEDIA_HEADER`] and its payload, or `None` where it was missing: it is given up.
+    pub datagram: Option<&'a [u8]>,
+}
+
+/// The packets that left the window in a move, in order: [`Receiver::advance`].
+#[derive(Clone, Debug)]
+pub struct Leaving<'a> {
+    /// The number of the next one, the room of each, what is there of them, and their lengths.
+    number: u16,
+    slot: usize,
+    out: &'a [u8],
+    sizes: &'a [u16],
+    handed_out: usize,
+}
+
+impl Leaving<'_> {
+    /// How many packets were present when they left, of all that did.
+    #[must_use]
+    pub fn handed_out(&self) -> usize {
+        self.handed_out
+    }
+}
+
+impl<'a> Iterator for Leaving<'a> {
+    type Item = Left<'a>;
+
+    fn next(&mut self) -> Option<Left<'a>> {
+        let (size, sizes) = self.sizes.split_first()?;
+        let (number, packet) = (self.number, self.out.get(..self.slot).unwrap_or(&[]));
+        self.sizes = sizes;
+        self.out = self.out.get(self.slot..).unwrap_or(&[]);
+        self.number = number.wrapping_add(1);
+        Some(Left { number, datagram: if *size == 0 { None } else { packet.get(..usize::from(*size)) } })
+    }
+
+    fn size_hint(&self) -> (usize, Option<usize>) {
+        (self.sizes.len(), Some(self.sizes.len()))
+    }
+}
+
+impl ExactSizeIterator for Leaving<'_> {
+    fn len(&self) -> usize {
+        self.sizes.len()
+    }
+}
+
 /// A window over consecutive packets, and the store that it is kept in: its own ([`Owned`]) or a lent one
 /// ([`Lent`](crate::Lent)).
 #[cfg(feature = "std")]
@@ -153,6 +210,38 @@ impl<S: Store> Receiver<S> {
         self.offer(face::cgv_row, datagram)
     }
 
+    /// Whether the window has to move on for a datagram of a port: its number, or that of the last packet of its group, is past the
+    /// window's end by less than n. Not where refusals 6 to 8 are its answer; nothing else of it is looked at.
+    #[must_use]
+    pub fn ahead(&self, port: Port, datagram: &[u8]) -> bool {
+        let Window { l, d, n, .. } = self.window;
+        let (kind, first, further) = match port {
+            Port::Media => (33, media_number(datagram), 0),
+            Port::Column => (96, parity_snbase(datagram), d.wrapping_sub(1).wrapping_mul(l)),
+            Port::Row => (96, parity_snbase(datagram), l.wrapping_sub(1)),
+        };
+        let past = first.and_then(|first| self.position(first.wrapping_add(further as u16)).checked_sub(n));
+        datagram.starts_with(&[0x80, kind]) && past.map_or(false, |past| past < n)
+    }
+
+    /// Moves the window on by 1 to n positions. The packets that leave are written to `out`, which has room for [`move_room`] bytes, and
+    /// their lengths to `sizes`; what these have past that stays as it is. The iterator walks them. The other positions move down, and
+    /// as many new ones at the end are missing. Parity in hand with a member behind the new base is released.
+    ///
+    /// # Errors
+    ///
+    /// Refusals 1 to 3, 22 where `by` is not from 1 to n, 4 also where `out` or `sizes` has too little room, and 5.
+    pub fn advance<'o>(&mut self, by: usize, out: &'o mut [u8], sizes: &'o mut [u16]) -> Result<Leaving<'o>, Refusal> {
+        let number = self.window.base;
+        let s = self.store.lent();
+        let lent = (out.as_mut_ptr(), out.len(), sizes.as_mut_ptr(), sizes.len());
+        // SAFETY: as in `open_in`; the outputs are borrowed apart from the store and from each other.
+        let answer = unsafe { lend!(face::cgv_move, [self.window, by], s, as_mut_ptr, [lent.0, lent.1, lent.2, lent.3]) };
+        self.window = answer.window;
+        let (slot, sizes) = (move_room(1, self.window.p), sizes.get(..by).unwrap_or(&[]));
+        Refusal::check(answer.number, Leaving { number, slot, out, sizes, handed_out: answer.count })
+    }
+
     /// Writes the packet of a number as a datagram: [`MEDIA_HEADER`](crate::MEDIA_HEADER) and its payload. Answers how many bytes;
     /// there has to be room for the largest packet, and the rest of it stays as it is.
     ///
@@ -205,7 +294,7 @@ impl<S: Store> Receiver<S> {
     }
 
     /// The payload of a number where it lies in the store, at its true length, or `None` where its packet is missing or not of the
-    /// window.
+    /// window. A move puts it elsewhere.
     #[must_use]
     pub fn payload(&self, number: u16) -> Option<&[u8]> {
         self.packet_at(self.position(number)).map(|packet| packet.payload)
@@ -298,5 +387,22 @@ impl<S: Store> Receiver<S> {
         let mut out = [0; MEDIA_HEADER + PAYLOAD_MAX];
         let len = self.read(number, &mut out)?;
         Ok(out.iter().take(len).copied().collect())
+    }
+
+    /// Moves the window on as [`advance`](Receiver::advance) does: the numbers of the packets that leave, in order, and their datagrams
+    /// where they are present.
+    ///
+    /// # Errors
+    ///
+    /// Refusals 1 to 3, 22 where `by` is not from 1 to n, 4 for a store that is too short, and 5.
+    pub fn advance_to_vec(&mut self, by: usize) -> Result<Vec<(u16, Option<Vec<u8>>)>, Refusal> {
+        // No room at all is refused by number 4, after 1 to 3 and 22: so none is made for sizes that are not permitted.
+        match self.advance(by, &mut [], &mut []) {
+            Err(Refusal::ShortBuffer) => {}
+            other => return other.map(|_| Vec::new()),
+        }
+        let (mut out, mut sizes) = (vec![0; move_room(by, self.window.p)], vec![0; by]);
+        let left = self.advance(by, &mut out, &mut sizes)?;
+        Ok(left.map(|left| (left.number, left.datagram.map(Vec::from))).collect())
     }
 }

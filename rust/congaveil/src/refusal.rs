@@ -1,7 +1,7 @@
 use core::fmt;
 
-/// Why a call was refused: the first reason that applies, in this order; of a capture file 21 comes before 4. Its number is that of
-/// documents 01 and 02.
+/// Why a call was refused: the first reason that applies, in this order; but 21 of a capture file and 22 of a move come before 4. Its
+/// number is that of documents 01 and 02.
 #[derive(Clone, Copy, Debug, PartialEq, Eq, Hash)]
 #[repr(u32)]
 pub enum Refusal {
@@ -41,10 +41,12 @@ pub enum Refusal {
     Missing = 17,
     /// Not a proper capture file, or not the content of one.
     BadCapture = 21,
+    /// A window moved by 0 positions, or by more than it has.
+    BadMove = 22,
 }
 
 impl Refusal {
-    /// The number of the refusal, 1 to 17 or 21.
+    /// The number of the refusal: 1 to 17, 21 or 22.
     #[must_use]
     pub fn number(self) -> u32 {
         self as u32
@@ -71,7 +73,8 @@ impl Refusal {
             15 => Refusal::Differs,
             16 => Refusal::Full,
             17 => Refusal::Missing,
-            _ => Refusal::BadCapture, // 21, the last
+            21 => Refusal::BadCapture,
+            _ => Refusal::BadMove, // 22, the last
         })
     }
 }
@@ -97,6 +100,7 @@ impl fmt::Display for Refusal {
             Refusal::Full => "no record is free",
             Refusal::Missing => "packet missing",
             Refusal::BadCapture => "not a proper capture file",
+            Refusal::BadMove => "window moved by no position, or by more than it has",
         })
     }
 }

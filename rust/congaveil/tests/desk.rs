@@ -112,7 +112,7 @@ fn spoilt() {
     assert_eq!((r.in_hand(), desk.counters().spoilt), (1, 1));
     assert_eq!(desk.media(&mut r, &media(at(4), byte_of(at(4)))), Ok(Taken { rebuilt: 0, spoilt: 1 }));
     assert_eq!((r.in_hand(), numbers(&mut desk, &r), r.missing().collect::<Vec<_>>()), (0, vec![], vec![at(0)]));
-    assert_eq!(desk.counters().to_string(), "received 15, recovered 0, late 0, missing 1, alarms 0, spoilt 2, refused 0");
+    assert_eq!(desk.counters().to_string(), "received 15, recovered 0, late 0, missing 1, given up 0, alarms 0, spoilt 2, refused 0");
     let mut sum = *desk.counters();
     sum += sum;
     assert_eq!(sum.spoilt, 4);
@@ -151,7 +151,7 @@ fn at_a_stroke() {
     assert_eq!(desk.media(&mut r, &[0; 11]), Err(Refusal::ShortDatagram));
     let how = |position| desk.how(&r, at(position));
     assert_eq!([how(0), how(3), how(4), how(16)], [How::Late, How::Arrived, How::Rebuilt, How::Missing]);
-    let line = "received 15, recovered 1, late 2, missing 0, alarms 2, spoilt 0, refused 7 (no. 6: 1, no. 13: 1, no. 14: 3, no. 15: 2)";
+    let line = "received 15, recovered 1, late 2, missing 0, given up 0, alarms 2, spoilt 0, refused 7 (no. 6: 1, no. 13: 1, no. 14: 3, no. 15: 2)";
     assert_eq!(desk.counters().to_string(), line);
     let mut sum = *desk.counters();
     sum += *desk.counters();
@@ -159,7 +159,50 @@ fn at_a_stroke() {
     let r = Receiver::open(SET_UP).unwrap(); // the next window: the counters go on
     desk.begin(&r);
     assert_eq!((numbers(&mut desk, &r), desk.counters().missing()), (vec![], 16));
-    assert_eq!(Counters::default().to_string(), "received 0, recovered 0, late 0, missing 0, alarms 0, spoilt 0, refused 0");
+    assert_eq!(Counters::default().to_string(), "received 0, recovered 0, late 0, missing 0, given up 0, alarms 0, spoilt 0, refused 0");
+}
+
+/// A window of two matrices that moves on: what left is handed out or given up, what was rebuilt and not told leaves untold, and how the
+/// others came moves down with them.
+#[test]
+fn moved_on() {
+    let mut r = Receiver::open(SetUp { positions: 32, ..SET_UP }).unwrap();
+    let (mut desk, mut out, mut sizes) = (Desk::new(), [0; 10 * 200], [0; 10]);
+    desk.begin(&r);
+    for i in (0..16).filter(|i| ![0, 1, 5, 10, 13].contains(i)) {
+        assert_eq!(desk.media(&mut r, &media(at(i), byte_of(at(i)))), taken(0));
+    }
+    for (row, start) in [(true, 4), (false, 0), (true, 0)] {
+        offer(&mut desk, &mut r, if row { Port::Row } else { Port::Column }, &parity(row, at(start)));
+    }
+    assert_eq!((desk.counters().rebuilt, desk.rebuilt(&r).next().map(|packet| packet.number)), (3, Some(at(0))));
+    assert_eq!(desk.advance(&mut r, 0, &mut out, &mut sizes).err(), Some(Refusal::BadMove));
+    assert_eq!((desk.counters().refused_with(Refusal::BadMove), desk.counters().positions), (1, 32));
+    let left: Vec<(u16, Option<usize>)> =
+        desk.advance(&mut r, 2, &mut out, &mut sizes).unwrap().map(|left| (left.number, left.datagram.map(<[u8]>::len))).collect();
+    assert_eq!(left, [(at(0), Some(200)), (at(1), Some(200))]);
+    assert_eq!((desk.counters().handed_out, desk.counters().given_up, desk.counters().positions), (2, 0, 34));
+    assert_eq!([5, 4, 1].map(|i| desk.how(&r, at(i))), [How::Rebuilt, How::Arrived, How::Missing]);
+    assert_eq!(desk.media(&mut r, &media(at(1), byte_of(at(1)))), Err(Refusal::Outside));
+    assert_eq!(numbers(&mut desk, &r), [at(5)]);
+    assert_eq!(desk.media(&mut r, &media(at(5), byte_of(at(5)))), Err(Refusal::Repeat));
+    assert_eq!(desk.advance(&mut r, 10, &mut out, &mut sizes).unwrap().handed_out(), 9);
+    assert_eq!((desk.counters().handed_out, desk.counters().given_up), (11, 1));
+    assert_eq!(desk.row(&mut r, &parity(true, at(12))), taken(1)); // 13, and it leaves untold
+    assert_eq!(desk.advance(&mut r, 4, &mut out, &mut sizes).unwrap().handed_out(), 4);
+    assert_eq!((numbers(&mut desk, &r), desk.counters().missing()), (vec![], 32));
+    assert!((16..48).all(|i| desk.how(&r, at(i)) == How::Missing));
+    assert_eq!(desk.advance(&mut r, 4, &mut out[..799], &mut sizes).err(), Some(Refusal::ShortBuffer));
+    let line = "received 12, recovered 3, late 1, missing 32, given up 1, alarms 0, spoilt 0, refused 4 (no. 4: 1, no. 13: 1, no. 14: 1, no. 22: 1)";
+    assert_eq!(desk.counters().to_string(), line);
+    let mut sum = *desk.counters();
+    sum += sum;
+    assert_eq!((sum.handed_out, sum.given_up), (30, 2));
+    // What is rebuilt now is told: what left untold is not counted as still to tell.
+    for i in (16..20).filter(|i| *i != 18) {
+        assert_eq!(desk.media(&mut r, &media(at(i), byte_of(at(i)))), taken(0));
+    }
+    assert_eq!((desk.row(&mut r, &parity(true, at(16))), numbers(&mut desk, &r)), (taken(1), vec![at(18)]));
 }
 
 /// What is read where it lies, and the numbers of a datagram for routing.
@@ -202,6 +245,7 @@ fn made_up() {
             let mut desk = Desk::new();
             desk.begin(&r);
             assert!(desk.media(&mut r, &media(BASE, 1)).is_err());
+            assert!(desk.advance(&mut r, n, &mut [0; 3200], &mut [0; 16]).is_err());
             assert!(r.packets().count() <= 16);
             for number in 0..=u16::MAX {
                 let _ = (r.payload(number), desk.how(&r, number));
@@ -210,10 +254,20 @@ fn made_up() {
         }
     }
     let most = u64::MAX;
-    let mut c = Counters { positions: most, received: most, rebuilt: most, late: most, alarms: most, spoilt: most, answers: [most; 18] };
+    let mut c = Counters {
+        positions: most,
+        received: most,
+        rebuilt: most,
+        late: most,
+        alarms: most,
+        spoilt: most,
+        handed_out: most,
+        given_up: most,
+        answers: [most; 23],
+    };
     c += c;
-    assert_eq!((c.recovered(), c.missing(), c.positions), (0, 0, most - 1));
-    assert!(c.to_string().len() < 768); // the room that the C header names
+    assert_eq!((c.recovered(), c.missing(), c.positions), (0, 2, most - 1)); // sums wrap
+    assert!(c.to_string().len() < 1024); // the room that the C header names
 }
 
 /// A desk that was begun with one window and is asked about another, which has packets marked that it never saw.

@@ -1,5 +1,6 @@
-//! Every number of document 01 is reached through the safe face; a refusal changes nothing; nothing is touched past the need.
-use congaveil::{Lent, Outer, Receiver, Record, Refusal, SetUp, Taken, Window, MEDIA_HEADER, PARITY_HEADER};
+//! Every number of document 01 and 22 is reached through the safe face; a refusal changes nothing; nothing is touched past the need.
+use congaveil::capture::Port;
+use congaveil::{move_room, Lent, Outer, Receiver, Record, Refusal, SetUp, Taken, Window, MEDIA_HEADER, PARITY_HEADER};
 
 const P: usize = 188;
 const BASE: u16 = 65_530;
@@ -237,6 +238,83 @@ fn lengths() {
     }
 }
 
+/// The numbers and packets of the first so many positions.
+fn first(r: &Receiver, by: usize) -> Vec<(u16, Option<Vec<u8>>)> {
+    (0..by).map(|i| r.window().base.wrapping_add(i as u16)).map(|number| (number, r.packet(number).ok())).collect()
+}
+
+/// Moves on, into outputs with a little more room: what left is what could be read before, with zeros behind it, and nothing is touched
+/// past that. The others are read under their numbers as before, and the new ones are missing.
+fn moves(r: &mut Receiver, by: usize) -> usize {
+    let (n, before) = (r.window().n, first(r, r.window().n));
+    let (slot, mut again) = (move_room(1, P), r.clone());
+    let (mut out, mut sizes) = (vec![0xA5; move_room(by, P) + 3], vec![9; by + 2]);
+    let left = r.advance(by, &mut out, &mut sizes).unwrap();
+    assert_eq!((left.len(), left.handed_out()), (by, before[..by].iter().filter(|(_, packet)| packet.is_some()).count()));
+    assert!(left.map(|left| (left.number, left.datagram.map(<[u8]>::to_vec))).eq(before[..by].iter().cloned()));
+    assert_eq!((&out[by * slot..], &sizes[by..]), (&[0xA5; 3][..], &[9; 2][..]));
+    for ((slot, size), (_, packet)) in out.chunks(slot).zip(&sizes).zip(&before[..by]) {
+        let packet = packet.as_deref().unwrap_or(&[]);
+        assert_eq!((slot.starts_with(packet), usize::from(*size)), (true, packet.len()));
+        assert!(slot[packet.len()..].iter().all(|byte| *byte == 0));
+    }
+    assert_eq!(first(r, n - by), before[by..]);
+    assert!(first(r, n)[n - by..].iter().all(|(_, packet)| packet.is_none()));
+    assert_eq!(again.advance_to_vec(by).unwrap(), before[..by]);
+    assert_eq!((again.window(), first(&again, n)), (r.window(), first(r, n)));
+    r.in_hand()
+}
+
+#[test]
+fn moving() {
+    let mut r = open(SetUp { positions: 32, ..SET_UP });
+    let at = |i: u16| BASE.wrapping_add(i);
+    for i in (0..32).filter(|i| ![0, 1, 5, 20, 21, 22].contains(i)) {
+        assert_eq!(r.media(&media(at(i), 1)), taken(0));
+    }
+    assert_eq!([r.row(&parity(true, at(0))), r.row(&parity(true, at(20))), r.column(&parity(false, at(1)))], [taken(0); 3]);
+    for by in [0, 33, usize::MAX] {
+        assert_eq!(r.advance(by, &mut [], &mut []).err(), Some(Refusal::BadMove));
+        assert_eq!(r.advance_to_vec(by), Err(Refusal::BadMove));
+    }
+    assert_eq!(r.advance(2, &mut vec![0; move_room(2, P) - 1], &mut [0; 2]).err(), Some(Refusal::ShortBuffer));
+    assert_eq!(r.advance(2, &mut vec![0; move_room(2, P)], &mut [0; 1]).err(), Some(Refusal::ShortBuffer));
+    assert_eq!((r.window().base, r.present(), r.in_hand()), (BASE, 26, 3));
+    assert_eq!([moves(&mut r, 1), moves(&mut r, 1), moves(&mut r, 3)], [2, 1, 1]);
+    assert_eq!(r.media(&media(at(4), 1)), Err(Refusal::Outside));
+    assert_eq!(r.row(&parity(true, at(4))), Err(Refusal::Outside));
+    assert_eq!([r.media(&media(at(36), 1)), r.media(&media(at(20), 1)), r.media(&media(at(21), 1))], [taken(0), taken(0), taken(1)]);
+    assert_eq!(r.packet(at(22)), Ok(media(at(22), 7)));
+    assert_eq!([moves(&mut r, 31), moves(&mut r, 32), moves(&mut r, 32)], [0; 3]);
+    assert_eq!((r.window().base, r.present()), (at(5 + 31 + 64), 0));
+    assert_eq!((move_room(0, 188), move_room(2, 188), move_room(usize::MAX, usize::MAX)), (0, 400, usize::MAX));
+}
+
+/// Which datagrams a window moves on for: 16 positions from 65,530 to 9, and as many from 10 to 25.
+#[test]
+fn ahead() {
+    let r = open(SET_UP);
+    let at = |i: u16| BASE.wrapping_add(i);
+    for (i, is) in [(0, false), (15, false), (16, true), (31, true), (32, false), (65_535, false)] {
+        assert_eq!(r.ahead(Port::Media, &media(at(i), 1)), is, "media {i}");
+        assert_eq!(r.ahead(Port::Row, &parity(true, at(i.wrapping_sub(3)))), is, "the row that ends with {i}");
+        assert_eq!(r.ahead(Port::Column, &parity(false, at(i.wrapping_sub(12)))), is, "the column that ends with {i}");
+    }
+    let (g, row) = (media(at(16), 1), parity(true, at(16)));
+    assert!(
+        !r.ahead(Port::Media, &g[..11])
+            && r.ahead(Port::Media, &g[..12])
+            && !r.ahead(Port::Row, &row[..27])
+            && r.ahead(Port::Row, &row[..28])
+    );
+    assert!(!r.ahead(Port::Row, &g) && !r.ahead(Port::Media, &row));
+    for byte in [0, 1] {
+        assert!(!r.ahead(Port::Media, &with(g.clone(), byte, 0x90)) && !r.ahead(Port::Row, &with(row.clone(), byte, 0x90)));
+    }
+    let none = Receiver::from_parts(Window::default(), r.into_parts().1);
+    assert!(!none.ahead(Port::Media, &g) && !none.ahead(Port::Column, &row));
+}
+
 /// The limits are those that opening keeps to.
 #[test]
 fn limits() {
@@ -277,12 +355,13 @@ fn words() {
         Full,
         Missing,
     ];
-    assert_eq!(all.len() + 1, congaveil::NUMBERS);
     for (i, refusal) in all.iter().enumerate() {
         assert_eq!(refusal.number(), i as u32 + 1);
         assert!(!refusal.to_string().is_empty());
     }
     assert_eq!((BadCapture.number(), BadCapture.to_string()), (21, "not a proper capture file".into()));
+    assert_eq!((BadMove.number(), BadMove.to_string()), (22, "window moved by no position, or by more than it has".into()));
+    assert_eq!(BadMove.number() as usize + 1, congaveil::NUMBERS);
     assert_eq!(BadLength.to_string(), "payload not whole transport packets up to the window's size");
     assert_eq!(BadRecovery.to_string(), "payload type recovery not the profile's");
 }

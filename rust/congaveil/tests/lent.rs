@@ -1,6 +1,6 @@
 //! A lent store and a lent room, with the crate's features as they are chosen: also without std.
+use congaveil::{move_room, Desk, How, Lent, Outer, Receiver, Record, Refusal, SetUp, Taken, PARITY_HEADER};
 use congaveil::{room_for, Arrangement, LentRoom, ParityStream, ParityStreams, Sender, SenderSetUp};
-use congaveil::{Desk, How, Lent, Outer, Receiver, Record, Refusal, SetUp, Taken, PARITY_HEADER};
 
 const SET_UP: SetUp = SetUp { base: 65_534, l: 4, d: 4, payload: 188, positions: 16, records: 8, ssrc: 7 };
 
@@ -39,6 +39,21 @@ fn a_row_across_the_wrap() {
     assert_eq!(desk.rebuilt(&receiver).map(|packet| (packet.number, packet.timestamp, packet.payload[0])).next(), Some((0, 2, 3)));
     assert_eq!((desk.how(&receiver, 0), receiver.payload(0)), (How::Rebuilt, Some(&[3; 188][..])));
     assert_eq!(desk.counters().recovered(), 1);
+
+    let (mut out, mut sizes) = ([9; move_room(3, 188) + 1], [9; 4]);
+    assert_eq!(desk.advance(&mut receiver, 17, &mut out, &mut sizes).err(), Some(Refusal::BadMove));
+    let left = desk.advance(&mut receiver, 3, &mut out, &mut sizes).unwrap();
+    assert_eq!((left.len(), left.handed_out()), (3, 3));
+    for (i, left) in (0u8..).zip(left) {
+        let datagram = left.datagram.unwrap();
+        assert_eq!((left.number, datagram.len(), datagram[7], datagram[199]), (65_534u16.wrapping_add(i.into()), 200, i, i + 1));
+    }
+    assert_eq!((out[600], sizes, receiver.window().base, receiver.present()), (9, [200, 200, 200, 9], 1, 1));
+    assert_eq!(receiver.payload(1), Some(&[4; 188][..]));
+    let mut last = receiver.advance(16, &mut [9; move_room(16, 188)], &mut [9; 16]).map(|left| left.handed_out());
+    assert_eq!((last, receiver.present()), (Ok(1), 0));
+    last = receiver.advance(16, &mut [9; move_room(16, 188) - 1], &mut [9; 16]).map(|left| left.handed_out());
+    assert_eq!(last, Err(Refusal::ShortBuffer));
 }
 
 /// A sender in arrays: the row that goes out with its last packet, and nothing with the others.

@@ -1,5 +1,6 @@
 //! Window values that were made up: every safe function ends with an answer, none panics, none makes room for what a window
 //! claims before a call has judged it, and a refusal alters nothing that was lent.
+use congaveil::capture::Port;
 use congaveil::{Lent, Outer, Receiver, Record, Refusal, SetUp, Window};
 
 const P: usize = 188;
@@ -39,11 +40,12 @@ impl Parts {
     }
 }
 
-/// Calls every safe function; the refusal that all seven calls agree on, or None where they do not.
+/// Calls every safe function; the refusal that all eight calls agree on, or None where they do not.
 fn every_call(window: Window, parts: &mut Parts) -> Option<Refusal> {
     let mut receiver = Receiver::from_parts(window, parts.lend());
-    let datagram = [0x80; 300];
-    let mut out = [0; 28 + P];
+    let mut datagram = [0x80; 300];
+    datagram[1] = 33;
+    let (mut out, mut sizes) = ([0; 28 + P], [0; 1]);
     let mut answers = vec![receiver.packet(3).map(|packet| packet.len())];
     answers.push(receiver.read(3, &mut out));
     answers.push(receiver.write_column(3, Outer::default(), &mut out));
@@ -51,8 +53,11 @@ fn every_call(window: Window, parts: &mut Parts) -> Option<Refusal> {
     answers.push(receiver.media(&datagram).map(|taken| taken.rebuilt));
     answers.push(receiver.column(&datagram).map(|taken| taken.rebuilt));
     answers.push(receiver.row(&datagram).map(|taken| taken.rebuilt));
+    answers.push(receiver.advance(1, &mut out, &mut sizes).map(|left| left.filter(|left| left.datagram.is_some()).count()));
+    answers.push(receiver.advance_to_vec(1).map(|left| left.len()));
     let _ = (receiver.has(3), receiver.missing().count(), receiver.present(), receiver.in_hand());
     let _ = (receiver.payload(3), receiver.packets().count());
+    let _ = [Port::Media, Port::Column, Port::Row].map(|port| receiver.ahead(port, &datagram));
     let first = answers[0].err();
     if answers.iter().all(|answer| answer.err() == first) {
         first
@@ -98,7 +103,7 @@ fn every_edge() {
                         let window = Window { base: 65_530, ssrc: 1, l, d, p, n, k, present: counts, in_use: counts & 15 };
                         let mut parts = before.clone();
                         every_call(window, &mut parts);
-                        calls += 8;
+                        calls += 10;
                         if (l, d, p, n) != (4, 4, P, 16) {
                             assert_eq!(parts, before, "{window:?}");
                         }
@@ -108,6 +113,27 @@ fn every_edge() {
         }
     }
     assert!(calls > 500_000, "{calls}");
+}
+
+/// Moves by any number: room is made only for one that a call has judged.
+#[test]
+fn moves_by_any_number() {
+    let good = Receiver::open(SET_UP).unwrap().into_parts().0;
+    for by in [0, 17, 401, 1 << 46, usize::MAX - 11, usize::MAX] {
+        for (window, refusal) in [
+            (good, Refusal::BadMove),
+            (Window { l: usize::MAX, ..good }, Refusal::BadProfile),
+            (Window { p: usize::MAX - 11, ..good }, Refusal::BadPayloadSize),
+            (Window { n: usize::MAX, ..good }, Refusal::BadRoom),
+        ] {
+            let mut parts = Parts::new(0);
+            let before = parts.clone();
+            let mut receiver = Receiver::from_parts(window, parts.lend());
+            assert_eq!(receiver.advance(by, &mut [0; 16 * (12 + P)], &mut [0; 16]).err(), Some(refusal));
+            assert_eq!(receiver.advance_to_vec(by), Err(refusal));
+            assert_eq!((*receiver.window(), parts), (window, before));
+        }
+    }
 }
 
 /// A store whose parts are empty, and one whose window names more than there is.
