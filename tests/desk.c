@@ -236,20 +236,21 @@ static void moved_on(void)
     cgv_desk_row(&desk, &r, g, parity(g, 1, at(4)));
     cgv_desk_column(&desk, &r, g, parity(g, 0, at(0)));
     cgv_desk_row(&desk, &r, g, parity(g, 1, at(0)));
-    must(desk.counters.rebuilt == 3 && cgv_desk_rebuilt(&desk, &r, &number) && number == at(0), "0, 1 and 5 are rebuilt, and 0 is told");
+    cgv_desk_row(&desk, &r, g, parity(g, 1, at(12)));
+    must(desk.counters.rebuilt == 4 && cgv_desk_rebuilt(&desk, &r, &number) && number == at(0), "0, 1, 5 and 13 are rebuilt, and 0 is told");
     must(cgv_desk_move(&desk, &r, 0, out, CGV_MOVE_ROOM(10, 188), sizes, 10).number == CGV_BAD_MOVE &&
              desk.counters.answers[CGV_BAD_MOVE] == 1 && desk.counters.positions == 2 * N, "a move by 0 is refused and counted");
     must(cgv_desk_move(&desk, &r, 2, out, CGV_MOVE_ROOM(10, 188), sizes, 10).count == 2, "0 and 1 leave");
     must(desk.counters.handed_out == 2 && desk.counters.given_up == 0 && desk.counters.positions == 2 * N + 2, "and are handed out");
-    must(desk.untold == 1 && cgv_desk_how(&desk, &r, at(5)) == CGV_HOW_REBUILT && cgv_desk_how(&desk, &r, at(4)) == CGV_HOW_ARRIVED &&
+    must(desk.untold == 2 && cgv_desk_how(&desk, &r, at(5)) == CGV_HOW_REBUILT && cgv_desk_how(&desk, &r, at(4)) == CGV_HOW_ARRIVED &&
              cgv_desk_how(&desk, &r, at(1)) == CGV_HOW_NONE, "1 left untold; how the others came");
     must(cgv_desk_media(&desk, &r, g, media(g, at(1), byte_of(at(1)))).number == CGV_OUTSIDE && desk.counters.late == 0, "1 arrives behind the base");
-    must(cgv_desk_rebuilt(&desk, &r, &number) && number == at(5) && !cgv_desk_rebuilt(&desk, &r, &number), "5 is told after the move");
+    must(cgv_desk_rebuilt(&desk, &r, &number) && number == at(5), "5 is told after the move");
     must(cgv_desk_media(&desk, &r, g, media(g, at(5), byte_of(at(5)))).number == CGV_REPEAT && desk.counters.late == 1, "5 arrives late");
     must(cgv_desk_move(&desk, &r, 10, out, CGV_MOVE_ROOM(10, 188), sizes, 10).count == 9 && desk.counters.handed_out == 11 &&
              desk.counters.given_up == 1, "10 is given up");
-    must(cgv_desk_row(&desk, &r, g, parity(g, 1, at(12))).count == 1 && desk.untold == 1, "13 is rebuilt");
-    must(cgv_desk_move(&desk, &r, 4, out, CGV_MOVE_ROOM(10, 188), sizes, 10).count == 4 && desk.untold == 0, "and leaves untold");
+    must(desk.untold == 1 && cgv_desk_rebuilt(&desk, &r, &number) && number == at(13), "13 is told, which was not while 5 was the last");
+    must(cgv_desk_move(&desk, &r, 4, out, CGV_MOVE_ROOM(10, 188), sizes, 10).count == 4 && desk.untold == 0, "four more leave");
     must(!cgv_desk_rebuilt(&desk, &r, &number) && cgv_missing(&desk.counters) == 2 * N, "a window of packets to come");
     for (i = 0; i < 2 * N; i++)
         must(cgv_desk_how(&desk, &r, cgv_number(&r.window, (size_t)i)) == CGV_HOW_NONE && desk.how[i] == CGV_HOW_NONE, "none of them came");
@@ -259,6 +260,9 @@ static void moved_on(void)
     cgv_counters_add(&sum, &desk.counters);
     cgv_counters_add(&sum, &desk.counters);
     must(sum.handed_out == 30 && sum.given_up == 2 && sum.answers[CGV_BAD_MOVE] == 2, "sums");
+    cgv_desk_media(&desk, &r, g, media(g, cgv_number(&r.window, 2 * N - 1), 1));
+    must(desk.how[2 * N - 1] == CGV_HOW_ARRIVED && cgv_desk_move(&desk, &r, 4, out, CGV_MOVE_ROOM(10, 188), sizes, 10).count == 0, "four to come are given up");
+    must(desk.how[2 * N - 5] == CGV_HOW_ARRIVED && desk.how[2 * N - 1] == CGV_HOW_NONE, "nothing is known of the new last one");
     free(out);
     free(sizes);
     end_receiver(&r);

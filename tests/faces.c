@@ -921,6 +921,10 @@ static void ahead(void)
             broken("a column ahead of the window");
     }
     media(g, (uint16_t)(BASE + N));
+    r.window.n = SIZE_MAX;
+    if (cgv_receiver_ahead(&r, CGV_PORT_MEDIA, g, 12))
+        broken("a window that was made up");
+    r.window.n = N;
     if (!cgv_receiver_ahead(&r, CGV_PORT_MEDIA, g, 12) || cgv_receiver_ahead(&r, CGV_PORT_MEDIA, g, 11))
         broken("a media packet too short to be judged");
     parity(g, 1, (uint16_t)(BASE + N));

@@ -172,10 +172,10 @@ fn moved_on() {
     for i in (0..16).filter(|i| ![0, 1, 5, 10, 13].contains(i)) {
         assert_eq!(desk.media(&mut r, &media(at(i), byte_of(at(i)))), taken(0));
     }
-    for (row, start) in [(true, 4), (false, 0), (true, 0)] {
+    for (row, start) in [(true, 4), (false, 0), (true, 0), (true, 12)] {
         offer(&mut desk, &mut r, if row { Port::Row } else { Port::Column }, &parity(row, at(start)));
     }
-    assert_eq!((desk.counters().rebuilt, desk.rebuilt(&r).next().map(|packet| packet.number)), (3, Some(at(0))));
+    assert_eq!((desk.counters().rebuilt, desk.rebuilt(&r).next().map(|packet| packet.number)), (4, Some(at(0))));
     assert_eq!(desk.advance(&mut r, 0, &mut out, &mut sizes).err(), Some(Refusal::BadMove));
     assert_eq!((desk.counters().refused_with(Refusal::BadMove), desk.counters().positions), (1, 32));
     let left: Vec<(u16, Option<usize>)> =
@@ -184,11 +184,11 @@ fn moved_on() {
     assert_eq!((desk.counters().handed_out, desk.counters().given_up, desk.counters().positions), (2, 0, 34));
     assert_eq!([5, 4, 1].map(|i| desk.how(&r, at(i))), [How::Rebuilt, How::Arrived, How::Missing]);
     assert_eq!(desk.media(&mut r, &media(at(1), byte_of(at(1)))), Err(Refusal::Outside));
-    assert_eq!(numbers(&mut desk, &r), [at(5)]);
+    assert_eq!(desk.rebuilt(&r).next().map(|packet| packet.number), Some(at(5)));
     assert_eq!(desk.media(&mut r, &media(at(5), byte_of(at(5)))), Err(Refusal::Repeat));
     assert_eq!(desk.advance(&mut r, 10, &mut out, &mut sizes).unwrap().handed_out(), 9);
     assert_eq!((desk.counters().handed_out, desk.counters().given_up), (11, 1));
-    assert_eq!(desk.row(&mut r, &parity(true, at(12))), taken(1)); // 13, and it leaves untold
+    assert_eq!(numbers(&mut desk, &r), [at(13)]); // not told while 5 was the last; 10 left, and is not told
     assert_eq!(desk.advance(&mut r, 4, &mut out, &mut sizes).unwrap().handed_out(), 4);
     assert_eq!((numbers(&mut desk, &r), desk.counters().missing()), (vec![], 32));
     assert!((16..48).all(|i| desk.how(&r, at(i)) == How::Missing));
@@ -198,11 +198,14 @@ fn moved_on() {
     let mut sum = *desk.counters();
     sum += sum;
     assert_eq!((sum.handed_out, sum.given_up), (30, 2));
-    // What is rebuilt now is told: what left untold is not counted as still to tell.
-    for i in (16..20).filter(|i| *i != 18) {
+    // The last position is one that came; after a move it is a new one, and what is rebuilt there is told.
+    assert_eq!(desk.media(&mut r, &media(at(47), byte_of(at(47)))), taken(0));
+    assert_eq!(desk.advance(&mut r, 4, &mut out, &mut sizes).unwrap().handed_out(), 0);
+    for i in 48..51 {
         assert_eq!(desk.media(&mut r, &media(at(i), byte_of(at(i)))), taken(0));
     }
-    assert_eq!((desk.row(&mut r, &parity(true, at(16))), numbers(&mut desk, &r)), (taken(1), vec![at(18)]));
+    assert_eq!((desk.how(&r, at(47)), desk.how(&r, at(51))), (How::Arrived, How::Missing));
+    assert_eq!((desk.row(&mut r, &parity(true, at(48))), numbers(&mut desk, &r)), (taken(1), vec![at(51)]));
 }
 
 /// What is read where it lies, and the numbers of a datagram for routing.
