@@ -1,167 +1,146 @@
-/* A card for an endless stream: two windows in turn, each with a store of its own. They overlap by (D - 1) x L positions, so that each
- * parity group lies wholly in one of them, and what one of them rebuilt in the overlap is offered to the other.
+/* A card for an endless stream: one window that moves with it. What leaves the window is sent on, or given up where it is missing.
  *
- * The stream is made here, with parity written by the library: 10 x 10, payloads of 188 bytes, 2 % of all datagrams lost, joined in
- * mid-matrix. Prints what was lost on the line and what of it stays missing, with the overlap and with windows end to end. */
+ * The stream is made here, with the library's sender: 200,000 packets in 10 x 10 matrices, payloads of 188 bytes, 2 % of all datagrams
+ * lost, joined in mid-matrix. Prints what was lost on the line and what of it was given up, for several ways to move; the last two show
+ * what to avoid: too few positions for the columns to come in time, and a window that does not move for parity ahead of it. */
 #include <congaveil.h>
 #include <stdio.h>
 #include <string.h>
 
-enum { L = 10, D = 10, P = 188, N = 400, K = 128, PACKETS = 200000, JOIN = 57, FIRST = 65000 };
+enum { L = 10, D = 10, P = 188, N = 300, K = 60, PACKETS = 200000, JOIN = 57, FIRST = 65000 };
 
-static uint8_t media[2][N * P], marks[2][N], parity[2][K * P];
-static uint32_t timestamps[2][N];
-static uint16_t lengths[2][N];
-static struct cgv_record records[2][K];
+static uint8_t media[N * P], marks[N], parity[K * P];
+static uint32_t timestamps[N];
+static uint16_t lengths[N];
+static struct cgv_record records[K];
 
-/* Two windows in turn. The older one is closed when the column parity of its last matrix has gone by, and its store opened again
- * further on. So that this comes early enough, n is at least 2 x (D - 1) x L + L x D. */
-struct card {
-    struct cgv_receiver window[2];
-    int older;
-    size_t step; /* from one base to the next */
-    unsigned long next, present, missing, wrong, alarms, spoilt, refused;
+static uint8_t out[CGV_MOVE_ROOM(L * D, P)];
+static uint16_t sizes[L * D];
+
+/* How a window moves: by so many positions, of so many, from the place at which it is joined. */
+struct way {
+    size_t by, n, join;
+    int for_parity; /* whether also for parity that is ahead of it */
 };
 
-static void open_window(struct card *c, int which, uint16_t base)
-{
-    struct cgv_answer a = cgv_receiver_open(&c->window[which], base, L, D, P, N, K, 1);
-    c->refused += a.number != CGV_DONE;
-}
-
-static void start(struct card *c, uint16_t base)
-{
-    static const struct cgv_receiver stores[2] = {
-        {CGV_NO_WINDOW, CGV_STORE_OF_ARRAYS(media[0], timestamps[0], lengths[0], marks[0], parity[0], records[0])},
-        {CGV_NO_WINDOW, CGV_STORE_OF_ARRAYS(media[1], timestamps[1], lengths[1], marks[1], parity[1], records[1])}};
-    memcpy(c->window, stores, sizeof stores);
-    open_window(c, 0, base);
-    open_window(c, 1, (uint16_t)(base + c->step));
-}
+struct card {
+    struct cgv_receiver r;
+    struct way way;
+    unsigned long next, sent_on, given_up, wrong, alarms, spoilt, refused; /* next: the place of the window's base */
+};
 
 static uint8_t byte_of(unsigned long place) { return (uint8_t)(place * 31 + place / 7); }
 
-/* The older window ends: its packets up to the newer one's base are sent on, the others handed to the newer one. */
-static void turn(struct card *c)
+static void start(struct card *c, struct way way)
 {
-    struct cgv_receiver *old = &c->window[c->older], *new = &c->window[!c->older];
-    uint8_t datagram[CGV_MEDIA_DATAGRAM_MAX];
+    static const struct cgv_receiver none = {
+        CGV_NO_WINDOW, CGV_STORE_OF_ARRAYS(media, timestamps, lengths, marks, parity, records)};
+    memset(c, 0, sizeof *c);
+    c->r = none;
+    c->way = way;
+    c->next = way.join;
+    c->refused += cgv_receiver_open(&c->r, (uint16_t)(FIRST + way.join), L, D, P, way.n, way.n / (L * D) * (L + D), 1).number != CGV_DONE;
+}
+
+/* Moves the window on: each packet that leaves it is sent on, if it is there, and compared here with the one that was sent. */
+static int move_on(struct card *c)
+{
     size_t i;
-    for (i = 0; i < N; i++) {
-        uint16_t number = cgv_number(&old->window, i);
-        const uint8_t *payload = cgv_receiver_payload(old, number);
-        if (i < c->step) {
-            c->present += payload != NULL;
-            c->missing += payload == NULL;
-            c->wrong += payload && (cgv_receiver_length(old, number) != P || payload[0] != byte_of(c->next) || payload[P - 1] != byte_of(c->next));
-            c->next++;
-        } else if (payload && !cgv_receiver_has(new, number)) {
-            size_t len = cgv_receiver_read(old, number, datagram, sizeof datagram).count;
-            c->refused += cgv_receiver_media(new, datagram, len).number != CGV_DONE;
-        }
+    if (cgv_receiver_move(&c->r, c->way.by, out, sizeof out, sizes, L * D).number != CGV_DONE) {
+        c->refused++;
+        return 0;
     }
-    open_window(c, c->older, (uint16_t)(old->window.base + 2 * c->step));
-    c->older = !c->older;
+    for (i = 0; i < c->way.by; i++, c->next++) {
+        struct cgv_left left = cgv_receiver_left(&c->r, c->way.by, i, out, sizeof out, sizes, L * D);
+        c->sent_on += left.datagram != NULL;
+        c->given_up += left.datagram == NULL;
+        c->wrong += left.number != (uint16_t)(FIRST + c->next) ||
+                    (left.datagram && (left.len != CGV_MEDIA_HEADER + P || left.datagram[12] != byte_of(c->next) ||
+                                       left.datagram[left.len - 1] != byte_of(c->next)));
+    }
+    return 1;
 }
 
-enum { MEDIA, COLUMN, ROW };
-
-/* A datagram from the line: offered to both windows. */
-static void arrive(struct card *c, int port, const uint8_t *datagram, size_t len)
+/* A datagram from the line. */
+static void arrive(struct card *c, uint8_t port, const uint8_t *datagram, size_t len)
 {
-    uint16_t number;
-    int i;
-    if (port == MEDIA && cgv_media_number(datagram, len, &number))
-        while (cgv_position(&c->window[c->older].window, number) >= N + L * D && cgv_position(&c->window[c->older].window, number) < 32768)
-            turn(c);
-    for (i = 0; i < 2; i++) {
-        struct cgv_receiver *r = &c->window[i];
-        struct cgv_answer a = port == MEDIA ? cgv_receiver_media(r, datagram, len)
-                                            : port == COLUMN ? cgv_receiver_column(r, datagram, len) : cgv_receiver_row(r, datagram, len);
-        c->alarms += port == MEDIA && a.number == CGV_DIFFERS;
-        c->spoilt += a.spoilt;
-        c->refused += a.number != CGV_DONE && a.number != CGV_OUTSIDE && a.number != CGV_REPEAT && a.number != CGV_FULL;
-    }
+    struct cgv_answer a;
+    while ((c->way.for_parity || port == CGV_PORT_MEDIA) && cgv_receiver_ahead(&c->r, port, datagram, len) && move_on(c))
+        ;
+    a = port == CGV_PORT_MEDIA    ? cgv_receiver_media(&c->r, datagram, len)
+        : port == CGV_PORT_COLUMN ? cgv_receiver_column(&c->r, datagram, len)
+                                  : cgv_receiver_row(&c->r, datagram, len);
+    c->alarms += port == CGV_PORT_MEDIA && a.number == CGV_DIFFERS;
+    c->spoilt += a.spoilt;
+    c->refused += a.number != CGV_DONE && a.number != CGV_OUTSIDE && a.number != CGV_REPEAT;
 }
 
-/* ---- the stream: a matrix at a time in a window of its own, its rows at once and its columns while the next one goes by */
+/* ---- the stream, and the line that loses 2 % of it */
+
+static uint64_t state;
 
 static int lost(void)
 {
-    static uint32_t state = 1;
-    state = state * 1664525u + 1013904223u;
-    return state >> 16 < 65536 * 2 / 100;
+    uint64_t z = state += 0x9e3779b97f4a7c15u;
+    z = (z ^ z >> 30) * 0xbf58476d1ce4e5b9u;
+    z = (z ^ z >> 27) * 0x94d049bb133111ebu;
+    return (z ^ z >> 31) % 100 < 2;
 }
 
-static uint8_t matrix[L * D * P], matrix_marks[L * D], no_parity[P], columns[L][CGV_PARITY_HEADER + P];
-static uint32_t matrix_timestamps[L * D];
-static uint16_t matrix_lengths[L * D];
-static struct cgv_record no_records[1];
-static struct cgv_receiver sender = {
-    CGV_NO_WINDOW, CGV_STORE_OF_ARRAYS(matrix, matrix_timestamps, matrix_lengths, matrix_marks, no_parity, no_records)};
+static uint8_t payloads[CGV_ROOM(L) * P], row[CGV_PARITY_HEADER + P], column[CGV_PARITY_HEADER + P];
+static uint32_t stamps[CGV_ROOM(L)];
+static uint16_t lens[CGV_ROOM(L)], longest[CGV_ROOM(L)];
+static struct cgv_stream sender = {CGV_NO_SENDER, CGV_ROOM_OF_ARRAYS(payloads, stamps, lens, longest), CGV_OUTPUTS_OF_ARRAYS(row, column),
+                                   CGV_NO_OUTER, CGV_NO_OUTER};
+static uint8_t gone[PACKETS]; /* which media packets were lost on the line */
 
-/* The media packet of a place, 12 + P bytes; the sender keeps it for the parity. */
+/* The media packet of a place, 12 + P bytes. */
 static void make_media(uint8_t *g, unsigned long place)
 {
     uint16_t number = (uint16_t)(FIRST + place);
     memset(g, 0, CGV_MEDIA_HEADER);
     g[0] = 0x80, g[1] = 33, g[2] = (uint8_t)(number >> 8), g[3] = (uint8_t)number;
     memset(g + CGV_MEDIA_HEADER, byte_of(place), P);
-    if (place % (L * D) == 0)
-        cgv_receiver_open(&sender, number, L, D, P, L * D, 1, 1);
-    cgv_receiver_media(&sender, g, CGV_MEDIA_HEADER + P);
 }
 
-/* The parity that goes out with a place: a column of the last matrix, and the row that ends here. */
-static void send_parity(struct card *c, unsigned long place)
+/* The whole stream; how many of the media packets that left the window were lost on the line. */
+static unsigned long run(struct card *c, struct way way)
 {
-    uint8_t g[CGV_PARITY_HEADER + P];
-    size_t at = place % (L * D), k;
-    if (place >= L * D && at % D == 0 && !lost())
-        arrive(c, COLUMN, columns[at / D], sizeof columns[0]);
-    if (at % L == L - 1 && !lost()) {
-        cgv_receiver_write_row(&sender, cgv_number(&sender.window, at + 1 - L), 0, 0, 0, g, sizeof g);
-        arrive(c, ROW, g, sizeof g);
-    }
-    for (k = 0; at == L * D - 1 && k < L; k++)
-        cgv_receiver_write_column(&sender, cgv_number(&sender.window, k), 0, 0, 0, columns[k], sizeof columns[k]);
-}
-
-/* The whole stream; how many media packets were lost on the line. */
-static unsigned long run(struct card *c, size_t step)
-{
-    unsigned long place, gone = 0;
-    memset(c, 0, sizeof *c);
-    c->step = step;
-    c->next = JOIN;
+    unsigned long place, count = 0;
+    state = 1;
+    start(c, way);
+    cgv_stream_open(&sender, FIRST, CGV_ALIGNED, L, D, P);
     for (place = 0; place < PACKETS; place++) {
         uint8_t g[CGV_MEDIA_HEADER + P];
+        struct cgv_sent sent;
         make_media(g, place);
-        if (place < JOIN)
-            continue;
-        if (place == JOIN)
-            start(c, (uint16_t)(FIRST + place));
-        if (place > JOIN && lost())
-            gone++;
-        else
-            arrive(c, MEDIA, g, sizeof g);
-        send_parity(c, place);
+        sent = cgv_stream_media(&sender, g, sizeof g, 0);
+        c->refused += sent.number != CGV_DONE;
+        gone[place] = (uint8_t)lost();
+        if (place >= way.join && !gone[place])
+            arrive(c, CGV_PORT_MEDIA, g, sizeof g);
+        if (sent.column && !lost() && place >= way.join)
+            arrive(c, CGV_PORT_COLUMN, column, sent.column);
+        if (sent.row && !lost() && place >= way.join)
+            arrive(c, CGV_PORT_ROW, row, sent.row);
     }
-    return gone;
+    for (place = way.join; place < c->next; place++)
+        count += gone[place];
+    return count;
 }
 
 int main(void)
 {
-    static const struct {
-        const char *name;
-        size_t step;
-    } ways[] = {{"overlapping by (D - 1) x L", N - (D - 1) * L}, {"end to end", N}};
+    static const struct way ways[] = {{L * D, 3 * L * D, JOIN, 1}, {1, 2 * L * D, JOIN, 1}, {L * D, 2 * L * D, 0, 1},
+                                      {L * D, 2 * L * D, JOIN, 1}, {1, 2 * L * D, JOIN, 0}};
     size_t i;
-    for (i = 0; i < 2; i++) {
+    for (i = 0; i < sizeof ways / sizeof ways[0]; i++) {
         static struct card c;
-        unsigned long gone = run(&c, ways[i].step);
-        printf("%s: %lu lost on the line; sent on %lu, missing %lu, wrong %lu, alarms %lu, spoilt %lu, refused otherwise %lu\n", ways[i].name, gone,
-               c.present, c.missing, c.wrong, c.alarms, c.spoilt, c.refused);
+        unsigned long count = run(&c, ways[i]);
+        printf("by %zu of %zu positions, from place %zu of a matrix%s: %lu lost on the line; sent on %lu, given up %lu, wrong %lu, alarms %lu, "
+               "spoilt %lu, refused otherwise %lu\n",
+               ways[i].by, ways[i].n, ways[i].join, ways[i].for_parity ? "" : ", for media alone", count, c.sent_on, c.given_up, c.wrong, c.alarms,
+               c.spoilt, c.refused);
     }
     return 0;
 }

