@@ -149,7 +149,7 @@
  *   by one that moved by 1 and for media alone.
  *   What is behind the base: a packet that comes later than that meets 13, and so does
  *   parity with a member there. Parity in hand with a member there is released by the move,
- *   since it could rebuild nothing of the window any more.
+ *   since it needs a packet that has left.
  *   How far ahead: a number far ahead of the window may be forged, and moving up to it gives
  *   up all that the window waits for. cgv_receiver_ahead asks for less than n positions past
  *   its end; where the stream itself has jumped further, open again.

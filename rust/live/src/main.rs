@@ -4,10 +4,10 @@
 //!     live send CAPTURE SEED PORT BACK [aligned|staggered]
 //!     live dissect CAPTURE PORT PCAP FIELDS
 //!     live mix CAPTURE SEED MIXED
-//!     live play CAPTURE PORT
+//!     live play CAPTURE PORT TIMES
 //!
 //! Media, columns and rows go to PORT, PORT + 2 and PORT + 4 of 127.0.0.1. A capture is kept in as many capture files as it needs,
-//! CAPTURE.1.cap, CAPTURE.2.cap and so on.
+//! CAPTURE.1.cap, CAPTURE.2.cap and so on; what is received is kept in none where CAPTURE is -.
 mod dissect;
 mod receive;
 mod send;
@@ -43,7 +43,7 @@ fn run(args: &[&str]) -> Outcome {
         }
         ["dissect", capture, port, pcap, fields] => dissect::run(capture, port.parse()?, pcap, fields),
         ["mix", capture, seed, mixed] => traffic::mix(capture, seed.parse()?, mixed),
-        ["play", capture, port] => send::play(capture, port.parse()?),
+        ["play", capture, port, times] => send::play(capture, port.parse()?, times.parse()?),
         _ => Err("usage: live receive|send|dissect|mix|play ..., as the head of rust/live/src/main.rs says".into()),
     }
 }

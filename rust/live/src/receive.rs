@@ -1,9 +1,9 @@
-//! Receives the three ports of a sender, drops some of the media, offers the rest to the library and compares what it rebuilt
-//! with what was sent.
-use crate::traffic::{beyond_reach, dropped, group, number, snbase, udp, write_capture, Entry, Profile, PORTS};
+//! Receives the three ports of a sender, drops some of the media, offers the rest to the library through one window that moves, and
+//! compares what leaves it with what was sent.
+use crate::traffic::{beyond_reach, dropped, group, number, udp, write_capture, Entry, Profile, PORTS};
 use crate::{all_hold, Outcome, PAYLOAD};
 use congaveil::capture::Port;
-use congaveil::{Receiver, Refusal};
+use congaveil::{move_room, Receiver, Refusal, POSITIONS_MAX};
 use std::collections::{BTreeMap, BTreeSet, VecDeque};
 use std::net::{Ipv4Addr, UdpSocket};
 use std::time::{Duration, Instant};
@@ -12,110 +12,128 @@ use std::{io, thread};
 /// How long to wait for the first datagram, and for one more.
 const PATIENCE: [Duration; 2] = [Duration::from_secs(30), Duration::from_secs(2)];
 
-/// A window stands still, so there is one after the other, four matrices each. The sender counts its matrices from its first
-/// packet and so do the windows: no group lies across two, but for staggered columns, which are refused then and count for nothing.
-/// The parity of a matrix comes while the next one is being sent, and media that wait are read before parity; therefore the two windows
-/// before the newest are kept.
-struct Windows {
+/// A card: one window that moves with the stream, a matrix at a time. Media that wait are read before parity, so that the window has more
+/// matrices than the header asks for. Places are counted from the first media packet on, without end.
+struct Card {
     profile: Profile,
     first: u16,
-    ssrc: u32,
-    open: VecDeque<(u16, Receiver)>,
-    opened: usize,
-    /// Packets rebuilt, by the answers.
+    receiver: Receiver,
+    out: Vec<u8>,
+    sizes: Vec<u16>,
+    /// The place of the window's base, and of the next media packet.
+    base: usize,
+    next: usize,
+    /// The media packets sent, from the window's base on.
+    sent: VecDeque<Vec<u8>>,
+    /// The places whose packets were dropped, and the groups of the parity that came.
+    lost: BTreeSet<usize>,
+    groups: Vec<Vec<usize>>,
+    moves: usize,
+    /// Packets that left the window: present, present though they were dropped, and of these short ones; another one than was sent.
+    handed_out: usize,
+    back: usize,
+    short: usize,
+    wrong: usize,
+    /// The places that left the window without their packet.
+    given_up: BTreeSet<usize>,
+    /// By the answers: packets rebuilt, parity packets spoilt, media that came after they had been rebuilt, refusals.
     rebuilt: usize,
-    /// Parity packets that were spoilt, by the answers.
     spoilt: usize,
-    /// Media that came after they had been rebuilt.
     late: usize,
-    /// Parity whose group lies across two windows.
-    across: usize,
     refused: BTreeMap<u32, usize>,
-    /// Position and datagram of every packet in the windows that were closed.
-    read: BTreeMap<u16, Vec<u8>>,
 }
 
-impl Windows {
-    fn new(profile: Profile, datagram: &[u8]) -> Self {
-        let ssrc = u32::from_be_bytes([datagram[8], datagram[9], datagram[10], datagram[11]]);
-        Windows {
+impl Card {
+    fn new(profile: Profile, datagram: &[u8]) -> Result<Self, Refusal> {
+        let (first, ssrc) = (number(datagram), u32::from_be_bytes([datagram[8], datagram[9], datagram[10], datagram[11]]));
+        Ok(Card {
             profile,
-            first: number(datagram),
-            ssrc,
-            open: VecDeque::new(),
-            opened: 0,
+            first,
+            receiver: Receiver::open(profile.matrices((POSITIONS_MAX / profile.matrix()).min(8), first, ssrc))?,
+            out: vec![0; move_room(profile.matrix(), PAYLOAD)],
+            sizes: vec![0; profile.matrix()],
+            base: 0,
+            next: 0,
+            sent: VecDeque::new(),
+            lost: BTreeSet::new(),
+            groups: Vec::new(),
+            moves: 0,
+            handed_out: 0,
+            back: 0,
+            short: 0,
+            wrong: 0,
+            given_up: BTreeSet::new(),
             rebuilt: 0,
             spoilt: 0,
             late: 0,
-            across: 0,
             refused: BTreeMap::new(),
-            read: BTreeMap::new(),
+        })
+    }
+
+    /// The places of a parity packet's group: the nearest ones, before or after the next media packet.
+    fn places(&self, parity: &[u8]) -> Vec<usize> {
+        let next = self.first.wrapping_add(self.next as u16);
+        group(parity, next).into_iter().map(|ahead| (self.next as i64 + i64::from(ahead as i16)) as usize).collect()
+    }
+
+    /// A datagram came in: it is offered, unless it is dropped.
+    fn take(&mut self, entry: &Entry, seed: u64) -> Outcome {
+        if entry.port != Port::Media {
+            let places = self.places(&entry.datagram);
+            self.groups.push(places);
+            return Ok(self.offer(entry)?);
         }
-    }
-
-    fn positions(&self) -> usize {
-        4 * self.profile.matrix()
-    }
-
-    /// Whether the positions of a group lie in one window.
-    fn in_one(&self, group: &[u16]) -> bool {
-        let window = |position: &u16| *position as usize / self.positions();
-        group.iter().all(|position| window(position) == window(&group[0]))
-    }
-
-    /// Opens windows until one reaches as far as a number. Half the numbers count as ahead.
-    fn reach(&mut self, number: u16) -> Result<(), Refusal> {
-        let positions = self.positions();
-        loop {
-            let base = self.open.back().map_or(self.first, |(base, _)| base.wrapping_add(positions as u16));
-            if number.wrapping_sub(base) >= 0x8000 {
-                return Ok(());
-            }
-            self.open.push_back((base, Receiver::open(self.profile.four_matrices(base, self.ssrc))?));
-            self.opened += 1;
-            if self.open.len() > 3 {
-                self.close()?;
-            }
+        if number(&entry.datagram) != self.first.wrapping_add(self.next as u16) {
+            return Err("a media packet was lost or out of order on loopback itself: run it again".into());
         }
+        self.sent.push_back(entry.datagram.clone());
+        self.next += 1;
+        if dropped(self.next - 1, self.profile, seed) {
+            self.lost.insert(self.next - 1);
+            return Ok(());
+        }
+        Ok(self.offer(entry)?)
     }
 
-    /// Offers a datagram to the open windows, the oldest first, until one does not call it outside.
+    /// Offers a datagram. GStreamer sends the parity of a row before its last packet, and the others may be dropped: the window moves for
+    /// parity too.
     fn offer(&mut self, entry: &Entry) -> Result<(), Refusal> {
-        // GStreamer sends the parity of a row before its last packet, and the others may be dropped: it may be the first to come.
-        self.reach(if entry.port == Port::Media { number(&entry.datagram) } else { snbase(&entry.datagram) })?;
-        let mut answer = Err(Refusal::Outside);
-        for (_, receiver) in &mut self.open {
-            if answer == Err(Refusal::Outside) {
-                answer = match entry.port {
-                    Port::Media => receiver.media(&entry.datagram),
-                    Port::Column => receiver.column(&entry.datagram),
-                    Port::Row => receiver.row(&entry.datagram),
-                };
-            }
+        while self.receiver.ahead(entry.port, &entry.datagram) {
+            self.move_on()?;
         }
+        let answer = match entry.port {
+            Port::Media => self.receiver.media(&entry.datagram),
+            Port::Column => self.receiver.column(&entry.datagram),
+            Port::Row => self.receiver.row(&entry.datagram),
+        };
         match answer {
             Ok(taken) => {
                 self.rebuilt += taken.rebuilt;
                 self.spoilt += taken.spoilt;
             }
             Err(Refusal::Repeat) if entry.port == Port::Media => self.late += 1,
-            Err(Refusal::Outside) if entry.port == Port::Column && !self.in_one(&group(&entry.datagram, self.first)) => self.across += 1,
             Err(refusal) => *self.refused.entry(refusal.number()).or_default() += 1,
         }
         Ok(())
     }
 
-    /// Reads all packets out of the oldest window and lets it go.
-    fn close(&mut self) -> Result<(), Refusal> {
-        let (base, receiver) = match self.open.pop_front() {
-            Some(oldest) => oldest,
-            None => return Ok(()),
-        };
-        for i in 0..self.positions() {
-            let number = base.wrapping_add(i as u16);
-            if receiver.has(number) {
-                self.read.insert(number.wrapping_sub(self.first), receiver.packet(number)?);
+    /// Moves the window on, and compares each packet that leaves it with the one that was sent.
+    fn move_on(&mut self) -> Result<(), Refusal> {
+        self.moves += 1;
+        for left in self.receiver.advance(self.profile.matrix(), &mut self.out, &mut self.sizes)? {
+            match (left.datagram, self.sent.pop_front()) {
+                (Some(is), Some(was)) => {
+                    let back = self.lost.contains(&self.base);
+                    self.handed_out += 1;
+                    self.back += usize::from(back);
+                    self.short += usize::from(back && is.len() < 12 + PAYLOAD);
+                    self.wrong += usize::from(is != was);
+                }
+                (None, Some(_)) => drop(self.given_up.insert(self.base)),
+                (Some(_), None) => self.wrong += 1,
+                (None, None) => {} // past the end of what was sent
             }
+            self.base += 1;
         }
         Ok(())
     }
@@ -143,77 +161,63 @@ pub fn run(capture: &str, profile: Profile, seed: u64, from: u16) -> Outcome {
     }
 
     let mut all: Vec<Entry> = Vec::new();
-    let mut windows: Option<Windows> = None;
-    let mut lost = BTreeSet::new();
+    let mut card: Option<Card> = None;
     let mut last = Instant::now();
     loop {
         let entry = match next(&sockets)? {
             Some(entry) => entry,
-            None if last.elapsed() > PATIENCE[!all.is_empty() as usize] => break,
+            None if last.elapsed() > PATIENCE[card.is_some() as usize] => break,
             None => {
                 thread::sleep(Duration::from_millis(1));
                 continue;
             }
         };
         last = Instant::now();
-        if entry.datagram.len() < 28 || (windows.is_none() && entry.port != Port::Media) {
+        if entry.datagram.len() < 28 || (card.is_none() && entry.port != Port::Media) {
             return Err(format!("a datagram of {} bytes came where none was expected", entry.datagram.len()).into());
         }
-        let windows = windows.get_or_insert_with(|| Windows::new(profile, &entry.datagram));
-        let position = number(&entry.datagram).wrapping_sub(windows.first);
-        if entry.port == Port::Media && dropped(position, profile, seed) {
-            lost.insert(position);
-        } else {
-            windows.offer(&entry)?;
+        if card.is_none() {
+            card = Some(Card::new(profile, &entry.datagram)?);
         }
-        all.push(entry);
+        if let Some(card) = &mut card {
+            card.take(&entry, seed)?;
+        }
+        if capture != "-" {
+            all.push(entry);
+        }
     }
-    let mut windows = windows.ok_or("nothing was received")?;
-    while !windows.open.is_empty() {
-        windows.close()?;
+    let mut card = card.ok_or("nothing was received")?;
+    while card.base < card.next {
+        card.move_on()?;
     }
     write_capture(capture, profile, &all)?;
-    report(&windows, &all, &lost)
+    report(&card)
 }
 
-fn report(windows: &Windows, all: &[Entry], lost: &BTreeSet<u16>) -> Outcome {
-    let first = windows.first;
-    let (media, parity): (Vec<&Entry>, Vec<&Entry>) = all.iter().partition(|entry| entry.port == Port::Media);
-    let sent: BTreeMap<u16, &Vec<u8>> = media.iter().map(|e| (number(&e.datagram).wrapping_sub(first), &e.datagram)).collect();
-    let groups: Vec<Vec<u16>> = parity.iter().map(|e| group(&e.datagram, first)).filter(|group| windows.in_one(group)).collect();
-    let reach = beyond_reach(lost, &groups);
-    let missing: BTreeSet<u16> = lost.iter().copied().filter(|p| !windows.read.contains_key(p)).collect();
-    let rebuilt: Vec<&u16> = lost.iter().filter(|p| windows.read.contains_key(p)).collect();
-    let equal = rebuilt.iter().filter(|p| windows.read[p] == *sent[p]).count();
-    let last = first.wrapping_add(media.len() as u16).wrapping_sub(1);
-
-    println!("  sent {} media, numbers {first} to {last}, and {} parity; {} windows", media.len(), parity.len(), windows.opened);
-    let short = rebuilt.iter().filter(|p| sent[p].len() < 12 + PAYLOAD).count();
-    println!("  dropped {}, rebuilt {}, {short} of them short, still missing {}", lost.len(), rebuilt.len(), missing.len());
-    println!("  rebuilt and equal to the one sent, byte for byte: {equal}");
+fn report(card: &Card) -> Outcome {
+    let reach = beyond_reach(&card.lost, &card.groups);
+    let last = card.first.wrapping_add(card.next as u16).wrapping_sub(1);
+    let n = card.receiver.window().n;
+    println!("  sent {} media, numbers {} to {last}, and {} parity", card.next, card.first, card.groups.len());
+    println!("  one window of {n} positions, moved {} times by {}", card.moves, card.profile.matrix());
+    println!("  dropped {}, rebuilt {}, {} of them short, given up {}", card.lost.len(), card.back, card.short, card.given_up.len());
+    println!("  handed out and equal to the one sent, byte for byte: {}", card.handed_out - card.wrong);
     println!("  beyond the reach of the parity that came: {}", reach.len());
-    for (count, what) in
-        [(windows.across, "columns across two windows, which are refused"), (windows.late, "came after they had been rebuilt")]
-    {
-        if count > 0 {
-            println!("  {what}: {count}");
-        }
+    if card.late > 0 {
+        println!("  came after they had been rebuilt: {}", card.late);
     }
 
-    let order = media.iter().enumerate().all(|(i, e)| number(&e.datagram) == first.wrapping_add(i as u16));
     let checks = [
-        (order && media.len() < 0x8000, "a media packet was lost or out of order on loopback itself: run it again"),
-        (lost.len() > 20 && !rebuilt.is_empty(), "too few packets came"),
-        (equal == rebuilt.len(), "a rebuilt packet is not the one sent"),
-        (windows.read.iter().all(|(p, datagram)| sent.get(p) == Some(&datagram)), "a packet read out is not the one sent"),
-        (windows.read.len() + missing.len() == sent.len(), "a packet that was offered is not present"),
-        (missing == reach, "not exactly the packets beyond the parity's reach are missing"),
-        (groups.len() + windows.across == parity.len(), "a column across two windows was not refused"),
-        (windows.rebuilt == rebuilt.len() + windows.late, "the answers do not add up to the packets rebuilt"),
-        (windows.spoilt == 0, "parity was spoilt, and the traffic is unaltered"),
+        (card.lost.len() > 20 && card.back > 0, "too few packets came"),
+        (card.wrong == 0, "a packet that left the window is not the one sent"),
+        (card.handed_out + card.given_up.len() == card.next, "not every packet that was sent left the window"),
+        (card.given_up.is_subset(&card.lost), "a packet that was offered was given up"),
+        (card.given_up == reach, "not exactly the packets beyond the parity's reach were given up"),
+        (card.rebuilt == card.back + card.late, "the answers do not add up to the packets rebuilt"),
+        (card.spoilt == 0, "parity was spoilt, and the traffic is unaltered"),
     ];
-    if !windows.refused.is_empty() {
-        return Err(format!("refusals, by number: {:?}", windows.refused).into());
+    if !card.refused.is_empty() {
+        return Err(format!("refusals, by number: {:?}", card.refused).into());
     }
     all_hold(&checks)
 }

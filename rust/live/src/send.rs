@@ -80,12 +80,20 @@ fn by_sender(media: &[Vec<u8>], profile: Profile, arrangement: Arrangement) -> R
     Ok(entries)
 }
 
-/// Sends the media of a capture to a port, one packet a millisecond.
-pub fn play(capture: &str, port: u16) -> Outcome {
+/// Sends the media of a capture to a port, one packet a millisecond, so many times over; numbers and timestamps go on.
+pub fn play(capture: &str, port: u16, times: u32) -> Outcome {
     let out = UdpSocket::bind((Ipv4Addr::LOCALHOST, 0))?;
-    for datagram in media_of_capture(capture)?.1 {
-        out.send_to(&datagram, (Ipv4Addr::LOCALHOST, port))?;
-        thread::sleep(Duration::from_millis(1));
+    let media = media_of_capture(capture)?.1;
+    let time = media.last().map_or(0, |last| timestamp(last).wrapping_sub(timestamp(&media[0])).wrapping_add(3600));
+    for turn in 0..times {
+        for mut datagram in media.iter().cloned() {
+            let further = (turn as u16).wrapping_mul(media.len() as u16);
+            let (number, stamp) = (number(&datagram).wrapping_add(further), timestamp(&datagram).wrapping_add(turn.wrapping_mul(time)));
+            datagram[2..4].copy_from_slice(&number.to_be_bytes());
+            datagram[4..8].copy_from_slice(&stamp.to_be_bytes());
+            out.send_to(&datagram, (Ipv4Addr::LOCALHOST, port))?;
+            thread::sleep(Duration::from_millis(1));
+        }
     }
     Ok(())
 }
@@ -109,7 +117,7 @@ pub fn run(capture: &str, sender: Option<Arrangement>, seed: u64, to: u16, back:
     let first = number(&media[0]);
     let entries = sender.map_or_else(|| with_parity(&media, profile), |arrangement| by_sender(&media, profile, arrangement))?;
     let groups: Vec<Vec<u16>> = entries.iter().filter(|e| e.port != Port::Media).map(|e| group(&e.datagram, first)).collect();
-    let lost: BTreeSet<u16> = (0..media.len() as u16).filter(|p| dropped(*p, profile, seed)).collect();
+    let lost: BTreeSet<u16> = (0..media.len() as u16).filter(|p| dropped(usize::from(*p), profile, seed)).collect();
     let reach = beyond_reach(&lost, &groups);
 
     let socket = UdpSocket::bind((Ipv4Addr::LOCALHOST, back))?;

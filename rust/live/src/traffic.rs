@@ -16,10 +16,10 @@ impl Profile {
         self.l * self.d
     }
 
-    /// A window over four matrices, with room for all their parity.
-    pub fn four_matrices(self, base: u16, ssrc: u32) -> SetUp {
+    /// A window over so many matrices, with room for all their parity.
+    pub fn matrices(self, count: usize, base: u16, ssrc: u32) -> SetUp {
         let Profile { l, d } = self;
-        SetUp { base, l, d, payload: PAYLOAD, positions: 4 * self.matrix(), records: 4 * (l + d), ssrc }
+        SetUp { base, l, d, payload: PAYLOAD, positions: count * self.matrix(), records: count * (l + d), ssrc }
     }
 }
 
@@ -45,7 +45,7 @@ fn part_name(capture: &str, part: usize) -> String {
 pub fn write_capture(capture: &str, profile: Profile, entries: &[Entry]) -> Outcome {
     for (part, entries) in (1..).zip(entries.chunks(ENTRIES_MAX)) {
         let base = entries.iter().find(|entry| entry.port == Port::Media).map_or(0, |entry| number(&entry.datagram));
-        let file = capture::to_vec(&profile.four_matrices(base, 0), entries.iter().map(|entry| (entry.port, &entry.datagram[..])))?;
+        let file = capture::to_vec(&profile.matrices(4, base, 0), entries.iter().map(|entry| (entry.port, &entry.datagram[..])))?;
         fs::write(part_name(capture, part), file)?;
     }
     Ok(())
@@ -109,8 +109,8 @@ pub fn group(parity: &[u8], first: u16) -> Vec<u16> {
 }
 
 /// Whether the packet of a position is dropped: four in a hundred singly, and a burst of L in every fifth matrix.
-pub fn dropped(position: u16, profile: Profile, seed: u64) -> bool {
-    let (matrix, place) = (position as usize / profile.matrix(), position as usize % profile.matrix());
+pub fn dropped(position: usize, profile: Profile, seed: u64) -> bool {
+    let (matrix, place) = (position / profile.matrix(), position % profile.matrix());
     let start = random(seed, matrix as u64 + 100_000) as usize % (profile.matrix() - profile.l + 1);
     let burst = matrix % 5 == 1 && (start..start + profile.l).contains(&place);
     burst || random(seed, position as u64) % 100 < 4
@@ -126,12 +126,12 @@ fn random(seed: u64, index: u64) -> u64 {
 
 /// The positions that stay missing of those lost, by the groups of the parity that was received: while a group has one missing,
 /// that one comes back. Only sets of positions; the library has no part in it.
-pub fn beyond_reach(lost: &BTreeSet<u16>, groups: &[Vec<u16>]) -> BTreeSet<u16> {
+pub fn beyond_reach<T: Copy + Ord>(lost: &BTreeSet<T>, groups: &[Vec<T>]) -> BTreeSet<T> {
     let mut missing = lost.clone();
     loop {
         let before = missing.len();
         for group in groups {
-            let gone: Vec<u16> = group.iter().copied().filter(|p| missing.contains(p)).collect();
+            let gone: Vec<T> = group.iter().copied().filter(|p| missing.contains(p)).collect();
             if let [one] = gone[..] {
                 missing.remove(&one);
             }
