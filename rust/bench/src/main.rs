@@ -5,8 +5,8 @@ mod prompeg;
 mod traffic;
 
 use congaveil::capture::{self, Capture, Port, ENTRIES_MAX, FRONT_MAX};
+use congaveil::{move_room, Outer, Receiver, Refusal, SetUp, Taken, MEDIA_HEADER, PARITY_HEADER};
 use congaveil::{room_for, Arrangement, ParityStreams, Sender, SenderSetUp};
-use congaveil::{Outer, Receiver, Refusal, SetUp, Taken, PARITY_HEADER};
 use plain::Aligned;
 use prompeg::{Build, Prompeg, FFMPEG, VECTORS};
 use std::{hint::black_box, time::Instant};
@@ -188,6 +188,143 @@ fn refuses(n: usize, k: usize) -> f64 {
     ) / 100.0
 }
 
+/// A move by so many positions of a full window of 200, L 10, D 10, P 1,316, and a memmove of the same bytes: each payload that leaves to
+/// its place in the output, and those that stay down. The move also clears the positions that are new, which the memmove does not. With
+/// `fresh` the store is a copy made just before, else the one of the run before, filled again.
+fn moves(by: usize, fresh: bool) -> (f64, f64) {
+    const P: usize = 1316;
+    let (full, stretch) = filled(Stretch::full(P), 10, 10, 200, 40, &|_| false);
+    let (mut out, mut sizes) = (vec![0; move_room(by, P)], vec![0; by]);
+    let mut next = 200;
+    let mut warm = full.clone();
+    let mut kept = vec![0u8; 200 * P];
+    let copied = |store: &mut [u8], out: &mut [u8]| {
+        for (to, from) in out.chunks_exact_mut(MEDIA_HEADER + P).zip(store.chunks_exact(P)) {
+            to[MEDIA_HEADER..].copy_from_slice(from);
+        }
+        store.copy_within(by * P.., 0);
+        black_box((&*store, &*out));
+    };
+    if fresh {
+        let ours = median(301, || full.clone(), |r| r.advance(by, &mut out, &mut sizes).unwrap().handed_out());
+        let copy = median(301, || kept.clone(), |store| copied(black_box(store), black_box(&mut out)));
+        return (ours, copy);
+    }
+    let mut times: Vec<f64> = (0..301)
+        .map(|_| {
+            let start = Instant::now();
+            assert_eq!(black_box(warm.advance(by, &mut out, &mut sizes).unwrap().handed_out()), by);
+            let time = start.elapsed().as_nanos() as f64;
+            (next..next + by).for_each(|i| assert_eq!(warm.media(&media(&stretch, i)), taken(0)));
+            next += by;
+            time
+        })
+        .collect();
+    times.sort_by(f64::total_cmp);
+    (times[150], median(301, || (), |_| copied(black_box(&mut kept), black_box(&mut out))))
+}
+
+/// The line of a stream that goes on: each datagram with its port, in the order of sending, less what is lost in a hundred; a row's parity
+/// with its last packet, a column's while the next matrix goes by. 20 matrices of 10 × 10.
+fn line(stretch: &Stretch, lost_in_100: u64) -> (Vec<(Port, Vec<u8>)>, usize) {
+    let (mut line, mut state, packets) = (Vec::new(), 1u64, 2000);
+    let mut lost = || {
+        state = state.wrapping_add(0x9e37_79b9_7f4a_7c15);
+        let z = (state ^ (state >> 30)).wrapping_mul(0xbf58_476d_1ce4_e5b9);
+        let z = (z ^ (z >> 27)).wrapping_mul(0x94d0_49bb_1331_11eb);
+        (z ^ (z >> 31)) % 100 < lost_in_100
+    };
+    for place in 0..packets {
+        let (matrix, within) = (place / 100, place % 100);
+        let mut sent = vec![(Port::Media, media(stretch, place))];
+        if matrix > 0 && within % 10 == 0 {
+            sent.push((Port::Column, parity(stretch, 10, 10, false, (matrix - 1) * 100 + within / 10)));
+        }
+        if within % 10 == 9 {
+            sent.push((Port::Row, parity(stretch, 10, 10, true, place - 9)));
+        }
+        line.extend(sent.into_iter().filter(|_| !lost()));
+    }
+    (line, packets)
+}
+
+/// A card that moves by so many positions as the stream goes on, n 200, K 40: the time of all calls together, a packet sent, and what was
+/// handed out and given up.
+fn long_run(by: usize, lost_in_100: u64) -> (f64, usize, usize) {
+    const P: usize = 1316;
+    let stretch = Stretch::full(P);
+    let (line, packets) = line(&stretch, lost_in_100);
+    let (mut out, mut sizes) = (vec![0; move_room(by, P)], vec![0; by]);
+    let (mut handed_out, mut left_behind) = (0, 0);
+    let time = median(
+        21,
+        || open(10, 10, P, 200, 40),
+        |r| {
+            (handed_out, left_behind) = (0, 0);
+            for (port, datagram) in &line {
+                while r.ahead(*port, datagram) {
+                    handed_out += r.advance(by, &mut out, &mut sizes).unwrap().handed_out();
+                    left_behind += by;
+                }
+                let _ = black_box(match port {
+                    Port::Media => r.media(datagram),
+                    Port::Column => r.column(datagram),
+                    Port::Row => r.row(datagram),
+                });
+            }
+        },
+    );
+    (time / packets as f64, handed_out, left_behind - handed_out)
+}
+
+/// A copy of each media packet of that stream, its 1,316 bytes, into 200 places in turn.
+fn long_copy() -> f64 {
+    const P: usize = 1316;
+    let stretch = Stretch::full(P);
+    let (line, packets) = line(&stretch, 0);
+    let mut store = vec![0u8; 200 * P];
+    median(
+        21,
+        || (),
+        |_| {
+            for (i, (_, datagram)) in line.iter().filter(|(port, _)| *port == Port::Media).enumerate() {
+                let to = &mut black_box(&mut store)[i % 200 * P..][..P];
+                to.copy_from_slice(&black_box(datagram)[MEDIA_HEADER..]);
+            }
+            black_box(&store);
+        },
+    ) / packets as f64
+}
+
+/// The middle one of five runs of a thing that gives a time.
+fn of_five<T: Copy>(mut thing: impl FnMut() -> T, time: impl Fn(&T) -> f64) -> T {
+    let mut runs: Vec<T> = (0..5).map(|_| thing()).collect();
+    runs.sort_by(|a, b| time(a).total_cmp(&time(b)));
+    runs[2]
+}
+
+fn moving() {
+    println!(
+        "a move of a full window, n 200, K 40, L 10, D 10, P 1316, beside a memmove of the same payloads: those that leave to the output,"
+    );
+    println!(
+        "the others down; the pair of the median ratio of five. The move clears the new positions too. In the store of the move before,"
+    );
+    println!("filled up, and in a copy of a full one made just before");
+    for by in [100, 1, 200] {
+        for (fresh, how) in [(false, "filled up"), (true, "a copy   ")] {
+            let (ours, copy) = of_five(|| moves(by, fresh), |(ours, copy)| ours / copy);
+            println!("  by {by:3}, {how}   {ours:8.0} ns   memmove {copy:8.0} ns   {:.2} times", ours / copy);
+        }
+    }
+    println!("\na packet in the long run, all calls together (media, columns, rows, moves), 2000 packets, n 200, K 40, L 10, D 10, P 1316");
+    for (by, lost) in [(100, 0), (100, 2), (1, 0), (1, 2)] {
+        let ((time, handed_out, given_up), copy) = of_five(|| (long_run(by, lost), long_copy()), |((time, ..), copy)| time / copy);
+        print!("  by {by:3}, {lost} % lost   {time:6.0} ns a packet sent   memcpy of the payload {copy:4.0} ns   {:.1} times", time / copy);
+        println!("   handed out {handed_out}, given up {given_up}");
+    }
+}
+
 /// The largest number of entries of one length: writing their file, judging it, and a memcpy of the bodies.
 fn captures(length: usize) -> (f64, f64, f64) {
     let set_up = SetUp { base: 65_500, l: 10, d: 10, payload: 1316, positions: 100, records: 40, ssrc: 0 };
@@ -326,6 +463,8 @@ fn main() {
         let (writes, reads, copies) = captures(length);
         println!("  {length:4} bytes each   written {writes:7.0} ns   judged {reads:7.0} ns   memcpy of the bodies {copies:7.0} ns");
     }
+    println!();
+    moving();
     println!();
     sending();
     // Last: ISA-L leaves the upper halves of the vector registers in use, and code without AVX is slower after it.
