@@ -1,18 +1,16 @@
 -- A window value whose base moved on, and a store whose positions moved down (calls' Move.antt): positions, groups, marks and contents.
 use mathlib.Core.Path.{_≡_, refl, sym, ap, _∙_}
-use mathlib.Core.Bool.{Bool, false, cond}
+use mathlib.Core.Bool.{false}
 use mathlib.Core.List.{List, [], _∷_, _++_, map, append-assoc}
-use Prim.Native.Nat.{ℕ, zero, suc, _+_, _*_, _-_, _%_, _^_, _<_, _≤_}
-use native.Mathlib.Nat.{mod-lt, mod-add-mod, add-mod-mod, add-mod-right, add-mul, zero-add, suc-add, mul-le-mul-right}
-use native.Mathlib.Numerals.{add-one}
+use Prim.Native.Nat.{ℕ, zero, suc, _+_, _*_, _-_, _^_, _<_, _≤_}
+use native.Mathlib.Nat.{add-mul, mul-le-mul-right}
 use native.Mathlib.Omega.{arith}
 use lib.Dec.{ltb}
-use lib.ListN.{length, getD, take, drop, replicate, length-append, length-replicate, length-drop, List·getD-append, getD-replicate}
-use lib.Seq.{drop-append-add, take-nil, take-take, drop-drop, take-append-le, drop-append-le, length-take-le, getD-append-add, getD-take, getD-drop}
-use lib.Pow.{pow-pos}
+use lib.ListN.{length, take, drop, replicate, length-replicate, length-drop}
+use lib.Seq.{drop-append-add, take-take, drop-drop, take-append-le, drop-append-le}
 use borrow.Author.Tests.{ltb-false}
 use Rattle.xor.specs.Xor.{padded}
-use Rattle.sequence.specs.Lists.{upTo, any, count, count-more, or-split}
+use Rattle.sequence.specs.Lists.{any, or-split}
 use Rattle.sequence.specs.Wrap.{ahead, numberAt, ahead-onward}
 use Rattle.window.specs.Store.{payloadIn}
 use Rattle.calls.specs.Move.{movedDown}

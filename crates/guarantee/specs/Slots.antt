@@ -3,10 +3,9 @@ use mathlib.Core.Path.{_≡_, sym, ap, _∙_}
 use mathlib.Core.Bool.{Bool, true, false, cond}
 use mathlib.Core.List.{List, [], _∷_, _++_, map, map-append, append-assoc}
 use Prim.Native.Nat.{ℕ, zero, suc, _+_, _*_, _<_, _≤_}
-use native.Mathlib.Nat.{suc-mul}
 use native.Mathlib.Decide.{ℕ-discrete}
 use native.Mathlib.Omega.{arith}
-use lib.ListN.{length, getD, take, drop, length-append, length-take, length-map, List·getD-append}
+use lib.ListN.{length, getD, take, drop, length-take, length-map, List·getD-append}
 use lib.Seq.{take-at, drop-at, take-take, getD-at}
 use Rattle.xor.specs.Xor.{padded}
 use Rattle.sequence.specs.Lists.{upTo, length-upTo}
@@ -18,6 +17,7 @@ use Rattle.window.specs.Group.{isMissing}
 use Rattle.calls.specs.Content.{contentAt}
 use Rattle.calls.specs.Datagram.{mediaPacket}
 use Rattle.calls.specs.Call.{over}
+use Rattle.calls.specs.Down.{length-slots}
 use Rattle.calls.specs.Move.{slotSize, leaving, leavingSlots, leavingSizes, movedOn}
 use Rattle.guarantee.specs.Lengths.{length-padded, padded-front}
 use Rattle.guarantee.specs.Parts.{length-part}
@@ -44,11 +44,6 @@ module _ (w : Window) (s : Store) where
       go true = omega arith
       go false = let z = length-part (w .p) (s .media) (lengthAt s i) i in omega (arith, length-take (lengthAt s i) (contentAt w s i .payload))
 
-  -- the slots are one after the other
-  length-slots : (by : ℕ) → length (leavingSlots w s by) ≡ by * slotSize w
-  length-slots zero = omega arith
-  length-slots (suc i) = length-append (leavingSlots w s i) (padded (slotSize w) (leaving w s i)) ∙ omega (arith, length-slots i, length-padded (slotSize w) (leaving w s i), suc-mul i (slotSize w))
-
   -- each has its datagram, with zeros behind it
   slot-at : (by i : ℕ) (rest : List ℕ) → i < by → take (slotSize w) (drop (i * slotSize w) (leavingSlots w s by ++ rest)) ≡ padded (slotSize w) (leaving w s i)
   slot-at zero i rest h = absurd (omega arith)
@@ -61,7 +56,7 @@ module _ (w : Window) (s : Store) where
       go : Dec (i ≡ n) → (i < n → take (slotSize w) (drop (i * slotSize w) slots) ≡ padded (slotSize w) (leaving w s i)) → take (slotSize w) (drop (i * slotSize w) slots) ≡ padded (slotSize w) (leaving w s i)
       go (yes e) earlier =
           rw e
-          (ap (take (slotSize w)) (drop-at (leavingSlots w s n) (padded (slotSize w) (leaving w s n) ++ rest) (n * slotSize w) (length-slots n))
+          (ap (take (slotSize w)) (drop-at (leavingSlots w s n) (padded (slotSize w) (leaving w s n) ++ rest) (n * slotSize w) (length-slots w s n))
           ∙ take-at (padded (slotSize w) (leaving w s n)) rest (slotSize w) (length-padded (slotSize w) (leaving w s n)))
       go (no e) earlier = earlier (omega arith)
 

@@ -19,7 +19,7 @@ use Rattle.window.specs.Group.{position, group}
 use Rattle.window.specs.Order.{used}
 use Rattle.window.specs.Plain.{Inside, shape-of, group-plain}
 use Rattle.window.specs.Store.{stored}
-use Rattle.calls.specs.State.{State, scene}
+use Rattle.calls.specs.State.{scene}
 use Rattle.calls.specs.Call.{begun}
 use Rattle.calls.specs.Move.{behind, releaseBehind}
 use Rattle.table.specs.View.{Row, slotAt, itAt, scatter}

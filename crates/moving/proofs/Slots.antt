@@ -1,19 +1,19 @@
 -- A packet that leaves, in its slot. Assumes nothing.
-use mathlib.Core.Path.{_≡_, refl, sym, ap, ap₂, subst, _∙_}
+use mathlib.Core.Path.{_≡_, refl, sym, ap, ap₂, _∙_}
 use mathlib.Core.Bool.{Bool, true, false, cond, not}
-use mathlib.Core.List.{List, [], _∷_, _++_, append-assoc, append-nil, map}
-use Prim.Native.Nat.{ℕ, zero, suc, _+_, _*_, _-_, _<_, _≤_}
-use native.Mathlib.Nat.{suc-mul, zero-add}
+use mathlib.Core.List.{List, [], _∷_, _++_, append-assoc, append-nil}
+use Prim.Native.Nat.{ℕ, suc, _+_, _*_, _-_, _<_, _≤_}
+use native.Mathlib.Nat.{zero-add}
 use native.Mathlib.Numerals.{add-one}
 use native.Mathlib.Omega.{arith}
 use lib.Dec.{eqb}
-use lib.ListN.{length, getD, set, take, drop, replicate, length-append, length-drop, length-replicate, length-map}
+use lib.ListN.{length, getD, set, take, drop, replicate, length-append, length-drop, length-map}
 use lib.Seq.{paste, sets, take-all, drop-length, take-take, take-at, drop-at, drop-drop, drop-cons, set-at, append-snoc, length-take-le}
 use borrow.Author.Tests.{eq-eqb, ne-eqb}
 use Rattle.xor.specs.Xor.{padded}
 use Rattle.xor.specs.Padded.{length-padded, padded-split, padded-front}
 use Rattle.xor.specs.Laid.{laid}
-use Rattle.sequence.specs.Lists.{upTo, count, count-more, length-upTo, map-append}
+use Rattle.sequence.specs.Lists.{upTo, count-more, length-upTo, map-append}
 use Rattle.sequence.specs.Wrap.{numberAt}
 use Rattle.rtp.specs.Rtp.{rtpHeader, rtpHeaderSize, mediaType}
 use Rattle.window.specs.declared.Window.{Window}
@@ -23,6 +23,7 @@ use Rattle.window.specs.Group.{isMissing}
 use Rattle.calls.specs.Call.{over}
 use Rattle.calls.specs.Content.{contentAt}
 use Rattle.calls.specs.Datagram.{mediaPacket}
+use Rattle.calls.specs.Down.{length-slots}
 use Rattle.calls.specs.Move.{slotSize, leaving, leavingSlots, leavingSizes, leavingCount}
 
 -- ---- one packet
@@ -89,10 +90,6 @@ module _ (w : Window) (s : Store) (i : ℕ) where
 
 -- ---- the first packets
 module _ (w : Window) (s : Store) where
-  pub slots-long : (i : ℕ) → length (leavingSlots w s i) ≡ i * slotSize w
-  slots-long zero = omega arith
-  slots-long (suc i) = length-append (leavingSlots w s i) (padded (slotSize w) (leaving w s i)) ∙ (let e = slots-long i in let p = length-padded (slotSize w) (leaving w s i) in let m = suc-mul i (slotSize w) in omega arith)
-
   sizes-long : (i : ℕ) → length (leavingSizes w s i) ≡ i
   sizes-long i = length-map (upTo i) (λ j. length (leaving w s j)) ∙ length-upTo i
 
@@ -102,8 +99,8 @@ module _ (w : Window) (s : Store) where
   slots-more i before out part e f =
       let X : List ℕ = leavingSlots w s i in
       let Z : List ℕ = padded (slotSize w) (leaving w s i) in
-      let front : take (i * slotSize w) out ≡ X = ap (take (i * slotSize w)) e ∙ take-at X (drop (length X) before) (i * slotSize w) (slots-long i) in
-      let rest : drop (i * slotSize w) out ≡ drop (length X) before = ap (drop (i * slotSize w)) e ∙ drop-at X (drop (length X) before) (i * slotSize w) (slots-long i) in
+      let front : take (i * slotSize w) out ≡ X = ap (take (i * slotSize w)) e ∙ take-at X (drop (length X) before) (i * slotSize w) (length-slots w s i) in
+      let rest : drop (i * slotSize w) out ≡ drop (length X) before = ap (drop (i * slotSize w)) e ∙ drop-at X (drop (length X) before) (i * slotSize w) (length-slots w s i) in
       ap₂ (λ (a b : List ℕ). a ++ b) front (f ∙ ap (over Z) rest)
       ∙ sym (append-assoc X Z (drop (length Z) (drop (length X) before)))
       ∙ ap (λ (l : List ℕ). X ++ Z ++ l) (drop-drop (length Z) (length X) before)

@@ -1,8 +1,8 @@
 -- The ways through a move. Assumes nothing.
-use mathlib.Core.Path.{_≡_, refl, sym, ap, ap₂, subst, _∙_}
-use mathlib.Core.Bool.{Bool, true, false, cond}
-use mathlib.Core.List.{List, [], _∷_, _++_}
-use Prim.Native.Nat.{ℕ, zero, suc, _+_, _*_, _^_, _<_, _≤_}
+use mathlib.Core.Path.{_≡_, refl, sym, ap, ap₂, _∙_}
+use mathlib.Core.Bool.{true, false}
+use mathlib.Core.List.{List, _++_}
+use Prim.Native.Nat.{ℕ, zero, suc, _+_, _^_, _<_, _≤_}
 use native.Mathlib.Omega.{arith}
 use lib.ListN.{length}
 use borrow.Author.Tests.{ne-eqb}
@@ -18,12 +18,11 @@ use Rattle.calls.specs.State.{State, scene}
 use Rattle.calls.specs.Call as calls
 use Rattle.calls.specs.Move as call
 use Rattle.table.specs.View.{Row, scatter}
-use Rattle.table.specs.Apart.{Fits, alike-scatter, alike-fits, alike-length, length-scatter}
+use Rattle.table.specs.Apart.{Fits, alike-scatter, alike-fits, length-scatter}
 use Rattle.order.specs.Stands.{Taken, Stands}
 use Rattle.engine.specs.Round.{Parts, over}
 use Rattle.engine.specs.Rows.{freeBelow}
 use Rattle.engine.proofs.Free.{desk}
-use Rattle.moving.specs.declared.Moved.{Moved}
 use Rattle.moving.specs.Rows.{rowBehind}
 use Rattle.moving.specs.Lies.{positions, Lies}
 use Rattle.moving.specs.Move.{Judged, Advance}

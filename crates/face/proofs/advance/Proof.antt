@@ -1,5 +1,4 @@
 -- `face::advance` meets its contract. Assumes nothing.
-use mathlib.Core.Path.{_≡_, refl, sym, ap, _∙_}
 use Rattle.calls.specs.Move.{moved}
 use Rattle.face.proofs.Ways.{carries}
 use native.Mathlib.Omega.{arith}

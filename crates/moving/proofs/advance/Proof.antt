@@ -1,9 +1,9 @@
 -- `moving::advance` meets its contract: refused, or each part of the move in turn. Assumes nothing.
-use mathlib.Core.Path.{_≡_, refl, sym, ap, _∙_}
+use mathlib.Core.Path.{_≡_, _∙_}
 use mathlib.Core.List.{List}
-use Prim.Native.Nat.{ℕ, _<_, _≤_}
-use lib.ListN.{length, getD}
-use Rattle.table.specs.View.{Row, hand}
+use Prim.Native.Nat.{ℕ}
+use lib.ListN.{length}
+use Rattle.table.specs.View.{hand}
 use Rattle.table.specs.Laws.{length-same}
 use Rattle.engine.specs.Round.{Parts}
 use Rattle.moving.proofs.Ways.{move-refused, stands, lies, move-made}

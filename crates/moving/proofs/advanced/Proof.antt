@@ -1,6 +1,4 @@
 -- `moving::advanced` meets its contract. Assumes nothing.
-use mathlib.Core.Path.{_≡_}
-use native.Mathlib.Omega.{arith}
 use borrow.Author.Needs.{needs}
 use Rattle.moving.proofs.advanced.Statement.{statement}
 use Rattle.moving.proofs.advanced.Tie as tie

@@ -1,11 +1,10 @@
 -- `moving::copy_block` meets its contract: the block is the part of the list that was copied into it. Assumes nothing.
-use mathlib.Core.Path.{_≡_, ap, _∙_}
+use mathlib.Core.Path.{ap, _∙_}
 use mathlib.Core.List.{List}
 use Prim.Native.Nat.{ℕ}
 use lib.ListN.{drop}
 use lib.Seq.{paste}
 use Rattle.moving.proofs.Down.{over-block}
-use native.Mathlib.Omega.{arith}
 use borrow.Author.Needs.{needs}
 use Rattle.moving.proofs.copy_block.Statement.{statement}
 use Rattle.moving.proofs.copy_block.Tie as tie

@@ -1,9 +1,8 @@
 -- `moving::leave` meets its contract: the packet is laid behind its header with zeros behind it, or all is zero. Assumes nothing.
-use mathlib.Core.List.{List}
 use lib.Seq.{sets}
 use Rattle.rtp.specs.Rtp.{rtpHeader, mediaType}
-use mathlib.Core.Path.{_≡_, refl, sym, ap, _∙_}
-use Prim.Native.Nat.{ℕ, _+_, _*_, _<_, _≤_}
+use mathlib.Core.Path.{ap, _∙_}
+use Prim.Native.Nat.{ℕ, _≤_}
 use lib.ListN.{length, getD}
 use borrow.Author.Tests.{ne-eqb}
 use Rattle.group.proofs.Rows.{row-ends}

@@ -1,13 +1,12 @@
 -- `moving::leave_all` meets its contract: after i turns the first i packets have left. Assumes nothing.
 use Rattle.moving.proofs.Slots.{one-most, slots-lent, sizes-more, count-next}
-use mathlib.Core.Path.{_≡_, refl, sym, ap, _∙_}
+use mathlib.Core.Path.{_≡_, refl, ap, _∙_}
 use mathlib.Core.Bool.{cond}
-use mathlib.Core.List.{List}
-use Prim.Native.Nat.{ℕ, _+_, _*_, _-_, _<_, _≤_}
+use Prim.Native.Nat.{ℕ, _+_, _*_, _-_, _≤_}
 use lib.Dec.{eqb}
-use lib.ListN.{length, drop, length-set, length-take, length-drop}
+use lib.ListN.{length, length-set, length-take, length-drop}
 use Rattle.calls.specs.Call.{over}
-use Rattle.calls.specs.Move.{slotSize, leavingSlots, leavingSizes, leavingCount}
+use Rattle.calls.specs.Move.{leavingSlots, leavingSizes, leavingCount}
 use borrow.Rule.Slice.PartMut.{same-len-mid}
 use Rattle.group.proofs.Rows.{row-ends}
 use Rattle.moving.specs.Lies.{positions}

@@ -1,12 +1,11 @@
 -- `moving::move_fault` meets its contract: each return is a way through `moveTests`. Assumes nothing.
-use mathlib.Core.Path.{_≡_, sym, ap, _∙_}
+use mathlib.Core.Path.{sym, _∙_}
 use Rattle.window.specs.Bounds.{set-up-good}
 use borrow.Author.Tests.{ltb-false}
 use lib.Dec.{ltb}
 use Rattle.sequence.specs.Lists.{or-split}
 use Rattle.table.specs.View.{hand}
 use Rattle.moving.proofs.Tests.{set-up-stops, move-stops, standing-says}
-use native.Mathlib.Omega.{arith}
 use borrow.Author.Needs.{needs}
 use Rattle.moving.proofs.move_fault.Statement.{statement}
 use Rattle.moving.proofs.move_fault.Tie as tie

@@ -1,8 +1,5 @@
 -- `moving::one` meets its contract. Assumes nothing.
-use mathlib.Core.Path.{_≡_}
 use borrow.Author.Tests.{eq-eqb, ne-eqb}
-use native.Mathlib.Omega.{arith}
-use borrow.Author.Needs.{needs}
 use Rattle.moving.proofs.one.Statement.{statement}
 use Rattle.moving.proofs.one.Tie as tie
 

@@ -1,5 +1,5 @@
 -- `moving::release_behind` meets its contract: after i turns each of the first i rows that begins behind is released. Assumes nothing.
-use mathlib.Core.Path.{_≡_, refl, sym, ap, _∙_}
+use mathlib.Core.Path.{_≡_, refl, ap, _∙_}
 use Prim.Native.Nat.{ℕ, _≤_, _-_}
 use lib.ListN.{length}
 use Rattle.window.specs.declared.Window.{Window}

@@ -1,10 +1,8 @@
 -- `moving::release_row` meets its contract: each return is a way through `freeIf`. Assumes nothing.
-use mathlib.Core.Path.{_≡_, refl, sym, ap, _∙_}
-use mathlib.Core.Bool.{_&&_}
+use mathlib.Core.Path.{sym, ap, _∙_}
 use borrow.Author.Tests.{eq-eqb, ne-eqb, lt-ltb, le-ltb}
 use Rattle.window.specs.declared.Record.{Record}
 use Rattle.window.specs.Order.{used}
-use native.Mathlib.Omega.{arith}
 use borrow.Author.Needs.{needs}
 use Rattle.moving.proofs.release_row.Statement.{statement}
 use Rattle.moving.proofs.release_row.Tie as tie

@@ -1,9 +1,8 @@
 -- `moving::short_outputs` meets its contract. Assumes nothing.
-use mathlib.Core.Path.{_≡_, refl}
+use mathlib.Core.Path.{refl}
 use Prim.Native.Nat.{_+_, _*_, _≤_}
 use native.Mathlib.Nat.{mul-le-mul}
 use native.Mathlib.Omega.{arith}
-use borrow.Author.Needs.{needs}
 use Rattle.moving.proofs.short_outputs.Statement.{statement}
 use Rattle.moving.proofs.short_outputs.Tie as tie
 

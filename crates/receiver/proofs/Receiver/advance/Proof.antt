@@ -1,9 +1,6 @@
 -- `receiver::Receiver::advance` meets its contract: the move on the rows. Assumes nothing.
-use mathlib.Core.Path.{_≡_, refl, sym, ap, _∙_}
-use Prim.Native.Nat.{ℕ, _*_, _+_, _≤_}
-use lib.ListN.{length, take}
+use mathlib.Core.Path.{refl, sym}
 use borrow.Author.Tests.{not-true, not-false}
-use Rattle.table.specs.View.{hand}
 use Rattle.calls.specs.Move.{moved}
 use Rattle.receiver.proofs.Part.{part-words, part-long}
 use Rattle.receiver.proofs.Ways.{unmoved, move-step}
