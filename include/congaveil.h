@@ -78,9 +78,10 @@
  *   unaltered traffic of one sender never meets 16.
  *   Anyone who can send to the parity ports can hold all K records with K forged parity
  *   packets, each over packets that are missing, until these arrive or the window has moved
- *   past one of them: true parity then meets 16. And forged or damaged parity rebuilds wrong packets, which
- *   nothing shows but a 15 when the true one arrives; where the packet that it gives cannot
- *   be right at all, it is spoilt. Sender addresses are the card's to check.
+ *   past one of them: true parity then meets 16. And forged or damaged parity rebuilds wrong
+ *   packets, which nothing shows but a 15 when the true one arrives, or an 18 when other
+ *   parity of theirs does; where the packet that it gives cannot be right at all, it is
+ *   spoilt. Sender addresses are the card's to check.
  *
  * What to do with an answer
  *   0          taken in. The count of an offer is packets rebuilt, and not packets lost on
@@ -99,6 +100,10 @@
  *   15         on media THE ALARM: a packet already marked present differs from the one
  *              that arrived. One of the two is wrong, and the one in the store may have
  *              gone to air. On parity: two parity packets of one group differ.
+ *   18         of parity: all of its group is present, and gives another parity packet. The
+ *              parity is wrong, or a packet of its group is, which may have gone to air.
+ *              Unaltered traffic never meets it; after one wrong packet, true parity may.
+ *              Tell the desk.
  *   17         routine when reading: the packet is missing.
  *   6 to 12    a datagram of another kind, port or profile, or a damaged one.
  *   1 to 5     a fault in the card: set-up, buffers, or a store or room that somebody
@@ -111,7 +116,7 @@
  * every other call refuses with 1.
  *
  * Stack and time
- *   A call needs less than 8 KiB of stack: 6,736 bytes measured on a painted stack, with
+ *   A call needs less than 8 KiB of stack: 8,144 bytes measured on a painted stack, with
  *   its arguments; tests/guard.c fails above 8 KiB.
  *   Time goes with n, K and P, with the records in use and with the packets rebuilt.
  *   At P 1,316, n 400, K 128 a media packet takes some 0.2 us and the worst call found,
@@ -395,8 +400,8 @@ CGV_LAYOUT(outer, sizeof(struct cgv_outer) == 12 && offsetof(struct cgv_outer, t
 CGV_LAYOUT(sent, sizeof(struct cgv_sent) == 64 && offsetof(struct cgv_sent, row) == 8 &&
                      offsetof(struct cgv_sent, column) == 16 && offsetof(struct cgv_sent, sender) == 24);
 
-/* Answers: the first refusal that applies, in this order; but 21 of a capture file and 22 of a
- * move come before 4. */
+/* Answers: the first refusal that applies, in this order; but 18 comes before 16, and 21 of a
+ * capture file and 22 of a move come before 4. */
 enum {
     CGV_DONE = 0,
     CGV_BAD_PROFILE = 1,      /* not 1 <= L <= 20, 4 <= D <= 20, L x D <= 100 */
@@ -417,11 +422,12 @@ enum {
     CGV_DIFFERS = 15,         /* already held, with a difference: on media, the alarm */
     CGV_FULL = 16,            /* two or more are missing and every record is in use */
     CGV_MISSING = 17,         /* reading a missing packet, or writing parity over one */
+    CGV_CONTRADICTS = 18,     /* parity other than its group gives, all of which is present */
     CGV_BAD_CAPTURE = 21,     /* not a proper capture file, or not the content of one */
     CGV_BAD_MOVE = 22         /* a window moved by 0 positions, or by more than n */
 };
 /* The size of a table of answers by their number: above every number of this library. The
- * eight calls on a window answer 0 to 17 and 22, a sender some of these; 18 to 20 are not
+ * eight calls on a window answer 0 to 18 and 22, a sender some of these; 19 and 20 are not
  * used, and 21 is of capture files alone. */
 #define CGV_NUMBERS 23
 
@@ -446,7 +452,7 @@ struct cgv_answer cgv_media(struct cgv_window w, const uint8_t *datagram, size_t
                             size_t parity_len, struct cgv_record *records,
                             size_t records_len);
 
-/* Offers a datagram that came in on the column parity port (0, 1 to 16). */
+/* Offers a datagram that came in on the column parity port (0, 1 to 16, 18). */
 struct cgv_answer cgv_column(struct cgv_window w, const uint8_t *datagram, size_t len,
                              uint8_t *media, size_t media_len, uint32_t *timestamps,
                              size_t timestamps_len, uint16_t *lengths, size_t lengths_len,
@@ -454,7 +460,7 @@ struct cgv_answer cgv_column(struct cgv_window w, const uint8_t *datagram, size_
                              size_t parity_len, struct cgv_record *records,
                              size_t records_len);
 
-/* Offers a datagram that came in on the row parity port (0, 1 to 16). */
+/* Offers a datagram that came in on the row parity port (0, 1 to 16, 18). */
 struct cgv_answer cgv_row(struct cgv_window w, const uint8_t *datagram, size_t len,
                           uint8_t *media, size_t media_len, uint32_t *timestamps,
                           size_t timestamps_len, uint16_t *lengths, size_t lengths_len,
@@ -908,6 +914,7 @@ static inline const char *cgv_message(uint32_t number)
     case CGV_DIFFERS: return "already held, and different";
     case CGV_FULL: return "no record is free";
     case CGV_MISSING: return "packet missing";
+    case CGV_CONTRADICTS: return "parity contradicts its group, all of which is present";
     case CGV_BAD_CAPTURE: return "not a proper capture file";
     case CGV_BAD_MOVE: return "window moved by no position, or by more than it has";
     default: return "not a number of this library";

@@ -36,7 +36,8 @@ struct cgv_counters {
     uint64_t spoilt;               /* parity released: what it gave cannot be right */
     uint64_t handed_out;           /* packets that were present when their window moved on */
     uint64_t given_up;             /* packets that were missing then: lost for good */
-    uint64_t answers[CGV_NUMBERS]; /* [0] offers taken in, [n] offers and moves refused with n */
+    uint64_t answers[CGV_NUMBERS]; /* [0] offers taken in, [n] offers and moves refused with n;
+                                      [18] tells of wrong packets, as alarms and spoilt do */
 };
 
 /* Rebuilt and never arrived: what the parity saved. */

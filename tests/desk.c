@@ -181,7 +181,7 @@ static void at_a_stroke(void)
     end_receiver(&r);
 }
 
-/* Parity that gives a packet which cannot be right: counted by the desk, and nothing is told. */
+/* Parity that gives a packet which cannot be right, or contradicts its group: counted by the desk, and nothing is told. */
 static void spoilt(void)
 {
     struct cgv_receiver r = new_receiver(N, 188, K);
@@ -206,8 +206,12 @@ static void spoilt(void)
     must(cgv_desk_column(&desk, &r, g, 216).spoilt == 0, "a column of two that are missing is held");
     must(cgv_desk_media(&desk, &r, g, media(g, at(4), byte_of(at(4)))).spoilt == 1 && desk.counters.spoilt == 2, "and is spoilt in hand");
     must(desk.counters.rebuilt == 0 && !cgv_desk_rebuilt(&desk, &r, &number) && cgv_missing(&desk.counters) == 1, "nothing is rebuilt");
+    parity(g, 1, at(4));
+    must(cgv_desk_row(&desk, &r, g, 216).number == CGV_DONE, "a row over a whole group");
+    g[215] ^= 1;
+    must(cgv_desk_row(&desk, &r, g, 216).number == CGV_CONTRADICTS && desk.counters.answers[CGV_CONTRADICTS] == 1, "and one that contradicts it");
     cgv_counters_line(&desk.counters, line, sizeof line);
-    must(!strcmp(line, "received 15, recovered 0, late 0, missing 1, given up 0, alarms 0, spoilt 2, refused 0"), line);
+    must(!strcmp(line, "received 15, recovered 0, late 0, missing 1, given up 0, alarms 0, spoilt 2, refused 1 (no. 18: 1)"), line);
     cgv_counters_add(&sum, &desk.counters);
     cgv_counters_add(&sum, &desk.counters);
     must(sum.spoilt == 4, "sums");

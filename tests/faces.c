@@ -315,9 +315,10 @@ static void helpers(void)
     if (strcmp(version, CGV_VERSION))
         broken("CGV_VERSION");
     if (strcmp(cgv_message(9), "payload not whole transport packets up to the window's size") ||
-        strcmp(cgv_message(11), "payload type recovery not the profile's") || strcmp(cgv_message(18), "not a number of this library") || !strcmp(cgv_message(17), cgv_message(18)) ||
+        strcmp(cgv_message(11), "payload type recovery not the profile's") || strcmp(cgv_message(19), "not a number of this library") || !strcmp(cgv_message(17), cgv_message(19)) ||
+        strcmp(cgv_message(18), "parity contradicts its group, all of which is present") ||
         strcmp(cgv_message(21), "not a proper capture file") || strcmp(cgv_message(22), "window moved by no position, or by more than it has") ||
-        strcmp(cgv_message(CGV_NUMBERS), cgv_message(18)))
+        strcmp(cgv_message(CGV_NUMBERS), cgv_message(19)))
         broken("a number in words");
     opens("opens", &b, L, D, P, N, K, 0);
     offers("taken", &b, cgv_receiver_media, g, media(g, 2), 0, 0);
@@ -422,6 +423,82 @@ static void parity_offers(void)
     offers("of another length recovery", &b, cgv_receiver_row, g, len, 15, 0);
     parity(g, 0, BASE);
     offers("no record free", &b, cgv_receiver_column, g, len, 16, 0);
+    end_bench(&b);
+}
+
+/* What a parity packet whose group is present meets with a bit turned over, by the byte that the bit is in; of the SNBase of another
+ * group the answer is that group's. */
+static uint32_t told(const uint8_t *g, size_t bit, int row)
+{
+    uint8_t top = bit % 8 == 7;
+    size_t start = (uint16_t)((g[12] << 8 | g[13]) - BASE);
+    switch (bit / 8) {
+    case 0: return CGV_BAD_RTP_HEADER;
+    case 1: return top ? CGV_BAD_RTP_HEADER : CGV_BAD_PAYLOAD_TYPE;
+    case 12:
+    case 13: return start < (row ? N - L + 1 : L) ? CGV_CONTRADICTS : CGV_OUTSIDE;
+    case 16: return top ? CGV_BAD_FEC_HEADER : CGV_BAD_RECOVERY;
+    case 17:
+    case 18:
+    case 19:
+    case 27: return CGV_BAD_FEC_HEADER;
+    case 24: return bit % 8 == 6 ? CGV_BAD_SHAPE : CGV_BAD_FEC_HEADER;
+    case 25:
+    case 26: return CGV_BAD_SHAPE;
+    default: return bit / 8 < 12 ? CGV_DONE : CGV_CONTRADICTS;
+    }
+}
+
+/* A parity packet that finds its whole group present, with each of its bits turned over in turn, a transport packet longer and one shorter. */
+static void lies(int row)
+{
+    struct bench b = new_bench(N, largest, K);
+    offer_fn port = row ? cgv_receiver_row : cgv_receiver_column;
+    uint8_t g[28 + LARGEST];
+    size_t i, len;
+    opens("opens", &b, L, D, largest, N, K, 0);
+    for (i = 0; i < N; i++)
+        offers("media", &b, cgv_receiver_media, g, media(g, (uint16_t)(BASE + i)), 0, 0);
+    len = parity(g, row, (uint16_t)(BASE + 1));
+    offers("as its group has it", &b, port, g, len, 0, 0);
+    for (i = 0; i < 8 * len; i++) {
+        g[i / 8] ^= (uint8_t)(1 << i % 8);
+        offers("a bit turned over", &b, port, g, len, told(g, i, row), 0);
+        g[i / 8] ^= (uint8_t)(1 << i % 8);
+    }
+    if (len < 28 + largest)
+        offers("a transport packet longer, of zeros", &b, port, g, len + P, CGV_CONTRADICTS, 0);
+    if (len > 28 + P)
+        offers("a transport packet shorter", &b, port, g, len - P, CGV_CONTRADICTS, 0);
+    offers("still as its group has it", &b, port, g, len, 0, 0);
+    end_bench(&b);
+}
+
+/* With every record in use a lie meets 18 and not 16; where one is missing it is not seen, and rebuilds; then true parity meets 18, and the
+ * true packet 15. */
+static void lies_in_time(void)
+{
+    struct bench b = new_bench(N, P, K);
+    uint8_t g[28 + P];
+    size_t i, len = 28 + P;
+    opens("opens", &b, L, D, P, N, 1, 0);
+    for (i = 1; i < N; i++)
+        if (i != 2 && i != 5 && i != 6)
+            offers("media", &b, cgv_receiver_media, g, media(g, (uint16_t)(BASE + i)), 0, 0);
+    parity(g, 0, (uint16_t)(BASE + 2));
+    offers("held", &b, cgv_receiver_column, g, len, 0, 0);
+    parity(g, 1, (uint16_t)(BASE + 4));
+    offers("no record free", &b, cgv_receiver_row, g, len, CGV_FULL, 0);
+    parity(g, 0, (uint16_t)(BASE + 3));
+    g[28] ^= 1;
+    offers("a lie, and no record free", &b, cgv_receiver_column, g, len, CGV_CONTRADICTS, 0);
+    parity(g, 0, BASE);
+    g[28] ^= 1;
+    offers("a lie that rebuilds", &b, cgv_receiver_column, g, len, 0, 1);
+    offers("media", &b, cgv_receiver_media, g, media(g, (uint16_t)(BASE + 2)), 0, 1);
+    parity(g, 1, BASE);
+    offers("true parity over a wrong packet", &b, cgv_receiver_row, g, len, CGV_CONTRADICTS, 0);
+    offers("the true packet", &b, cgv_receiver_media, g, media(g, BASE), CGV_DIFFERS, 0);
     end_bench(&b);
 }
 
@@ -1323,12 +1400,17 @@ int main(void)
         helpers();
         media_offers();
         parity_offers();
+        lies(0);
+        lies(1);
+        lies_in_time();
         rebuilds();
         moving();
         refused_moves();
         walks();
         ahead();
         largest = LARGEST;
+        lies(0);
+        lies(1);
         rebuilds();
         moving();
         refused_moves();
@@ -1341,10 +1423,10 @@ int main(void)
         captures();
     }
     for (number = 0; number < CGV_NUMBERS; number++)
-        if (!reached[number] && (number <= CGV_MISSING || number >= CGV_BAD_CAPTURE)) {
+        if (!reached[number] && (number <= CGV_CONTRADICTS || number >= CGV_BAD_CAPTURE)) {
             fprintf(stderr, "number %u was not reached: %s\n", (unsigned)number, cgv_message(number));
             return 1;
         }
-    printf("C face: %zu calls as they must be, every number from 0 to 17, 21 and 22\n", calls);
+    printf("C face: %zu calls as they must be, every number from 0 to 18, 21 and 22\n", calls);
     return 0;
 }

@@ -1075,7 +1075,7 @@ static int moves_missed(void)
 }
 
 /* Whether a call on a window has this answer. */
-static int of_window(size_t number) { return number <= CGV_MISSING || number == CGV_BAD_MOVE; }
+static int of_window(size_t number) { return number <= CGV_CONTRADICTS || number == CGV_BAD_MOVE; }
 
 int main(int argc, char **argv)
 {
@@ -1124,7 +1124,7 @@ int main(int argc, char **argv)
         return 1;
     }
     printf("guard: %llu calls over %llu windows, %llu lengths that claimed more than there is, %llu helpers: nothing touched that must not be;\n"
-           "  every number from 0 to 17 and 22, the rarest, %zu, %llu times; %llu moves left %llu packets behind and released %llu parity packets;\n"
+           "  every number from 0 to 18 and 22, the rarest, %zu, %llu times; %llu moves left %llu packets behind and released %llu parity packets;\n"
            "  %llu parity packets spoilt; %llu capture files written, %llu readings not whole;\n"
            "  %llu senders took %llu media packets in, %llu of them with a row, %llu with a column, %llu with both, and refused %llu others;\n"
            "  a call needed %zu bytes of stack at most\n",

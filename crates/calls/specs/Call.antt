@@ -103,17 +103,25 @@ holds w s stream snbase r = inUse w s r && (eqb (recordAt s r .stream) stream &&
 abbrev pub holdsSame : Window → Store → (stream : ℕ) → List ℕ → ℕ → Bool
 holdsSame w s stream g r = holds w s stream (snbase g) r && sameRecovery (recoveryAt w s r) (recoveryOf (w .p) g)
 
--- 13 to 16 for a parity datagram: a member lies outside; it is in hand, the same; it is in hand, with a difference;
--- as many are missing as parity in hand waits for, and there is no room
+-- a parity datagram contradicts its group: all of that is present, and defines another timestamp, length or payload recovery, or a payload of
+-- another length (02, request 6); another PT recovery has met 11
+abbrev pub contradicts : Window → (stream : ℕ) → List ℕ → Store → Bool
+contradicts w stream g s =
+    not (any (isMissing (s .marks)) (group w stream (snbase g)))
+    && not (sameRecovery (recoveryOver w s (group w stream (snbase g))) (recoveryOf (w .p) g))
+
+-- 13 to 15, 18 and 16 for a parity datagram: a member lies outside; it is in hand, the same; it is in hand, with a difference; it contradicts
+-- its group; as many are missing as parity in hand waits for, and there is no room
 abbrev pub parityPlaceTests : Window → (stream : ℕ) → List ℕ → Store → List (ℕ × Bool)
 parityPlaceTests w stream g s =
     (13, not (inside w stream (snbase g)))
     ∷ (14, any (holdsSame w s stream g) (upTo (rows w)))
     ∷ (15, any (holds w s stream (snbase g)) (upTo (rows w)))
+    ∷ (18, contradicts w stream g s)
     ∷ (16, leb leastMissing (length (missing (s .marks) (group w stream (snbase g)))) && not (ltb (w .«in_use») (parityRoom w)))
     ∷ []
 
--- the tests of a parity offer on the port of a stream: 1 to 16
+-- the tests of a parity offer on the port of a stream: 1 to 16, and 18 before 16
 abbrev pub parityOfferTests : Window → (stream : ℕ) → List ℕ → Store → List (ℕ × Bool)
 parityOfferTests w stream g s = standingTests w s 0 0 ++ parityTests stream (w .l) (w .d) (w .p) g ++ parityPlaceTests w stream g s
 

@@ -1,7 +1,7 @@
 -- What is known where no refusal of a call applied, by name: one record a call. A refusal more is a field more, and moves no other.
-use mathlib.Core.Path.{_≡_, sym, ap, _∙_}
+use mathlib.Core.Path.{_≡_, refl, sym, ap, _∙_}
 use mathlib.Core.Bool.{Bool, true, false, not, _&&_, _||_, and-false, false≢true}
-use mathlib.Core.List.{List, [], _∷_, _++_}
+use mathlib.Core.List.{List, [], _∷_, _++_, map}
 use Prim.Native.Nat.{ℕ, _+_, _-_, _<_, _≤_}
 use lib.ListN.{length, drop, length-drop}
 use lib.Dec.{eqb, leb, ltb}
@@ -16,8 +16,15 @@ use Rattle.window.specs.declared.Window.{Window}
 use Rattle.window.specs.Limits.{leastMissing, rows, parityRoom}
 use Rattle.window.specs.Store.{Store}
 use Rattle.window.specs.Group.{position, group, inside, isMissing, missing}
-use Rattle.calls.specs.Call.{standingTests, mediaPlaceTests, mediaOfferTests, holds, holdsSame, parityPlaceTests, parityOfferTests, readPlaceTests, readTests, writePlaceTests, writeTests}
+use Rattle.calls.specs.Content.{sameRecovery, recoveryOver}
+use Rattle.calls.specs.Accept.{recoveryOf}
+use Rattle.calls.specs.Call.{standingTests, mediaPlaceTests, mediaOfferTests, holds, holdsSame, contradicts, parityPlaceTests, parityOfferTests, readPlaceTests, readTests, writePlaceTests, writeTests}
 use Rattle.calls.specs.Standing.{Standing, standing-good}
+
+-- a parity offer meets 1 to 15 in their order, then 18, then 16 (02, request 6)
+pub parity-order : (w : Window) (stream : ℕ) (g : List ℕ) (s : Store)
+    → map (λ (t : ℕ × Bool). t .0) (parityOfferTests w stream g s) ≡ 1 ∷ 2 ∷ 3 ∷ 4 ∷ 5 ∷ 6 ∷ 7 ∷ 8 ∷ 9 ∷ 10 ∷ 11 ∷ 12 ∷ 13 ∷ 14 ∷ 15 ∷ 18 ∷ 16 ∷ []
+parity-order w stream g s = refl
 
 -- no refusal of a media offer applied
 pub record MediaPassed (w : Window) (g : List ℕ) (s : Store) : Type 0 where
@@ -33,6 +40,7 @@ pub record ParityPassed (w : Window) (stream : ℕ) (g : List ℕ) (s : Store) :
   pub permitted : noRow stream (w .l) ≡ false
   pub in-window : inside w stream (snbase g) ≡ true
   pub new : any (holds w s stream (snbase g)) (upTo (rows w)) ≡ false
+  pub agrees : any (isMissing (s .marks)) (group w stream (snbase g)) ≡ false → sameRecovery (recoveryOver w s (group w stream (snbase g))) (recoveryOf (w .p) g) ≡ true
   pub has-room : leastMissing ≤ length (missing (s .marks) (group w stream (snbase g))) → w .«in_use» < parityRoom w
 
 -- no refusal of reading out a number applied
@@ -88,7 +96,7 @@ parity-passed w stream g s e =
     let front = first-front (standingTests w s 0 0 ++ tests) (parityPlaceTests w stream g s) e in
     let wire = first-none (parityTests stream (w .l) (w .d) (w .p) g) (tt, (tt, (tt, (tt, (tt, (tt, (tt, tt)))))))
     (first-back (standingTests w s 0 0) tests (tt, (tt, (tt, (tt, (tt, tt))))) front) in
-    let place = first-none (parityPlaceTests w stream g s) (tt, (tt, (tt, (tt, tt))))
+    let place = first-none (parityPlaceTests w stream g s) (tt, (tt, (tt, (tt, (tt, tt)))))
     (first-back (standingTests w s 0 0 ++ tests) (parityPlaceTests w stream g s) (tt, (tt, (tt, (tt, (tt, (tt, (tt, (tt, (tt, (tt, (tt, (tt, tt)))))))))))) e) in
     record {
       standing = standing-good w s 0 0 (first-front (standingTests w s 0 0) tests front);
@@ -96,8 +104,9 @@ parity-passed w stream g s e =
       permitted = or-split (not (eqb (dBit g) stream) || not (eqb (offset g) (offsetOf stream (w .l))) || not (eqb (na g) (naOf stream (w .l) (w .d)))) (noRow stream (w .l)) (wire .1 .1 .1 .1 .1 .1 .0) .1;
       in-window = not-false (inside w stream (snbase g)) (place .0);
       new = place .1 .1 .0;
+      agrees = λ whole. not-false _ (not-both (not (any (isMissing (s .marks)) (group w stream (snbase g)))) _ (place .1 .1 .1 .0) (ap not whole));
       has-room = λ m. ltb-true (w .«in_use») (parityRoom w) (not-false (ltb (w .«in_use») (parityRoom w))
-          (not-both (leb leastMissing (length (missing (s .marks) (group w stream (snbase g))))) (not (ltb (w .«in_use») (parityRoom w))) (place .1 .1 .1 .0) (le-leb leastMissing _ m)));
+          (not-both (leb leastMissing (length (missing (s .marks) (group w stream (snbase g))))) (not (ltb (w .«in_use») (parityRoom w))) (place .1 .1 .1 .1 .0) (le-leb leastMissing _ m)));
     }
 
 pub read-passed : (w : Window) (number : ℕ) (s : Store) (out : List ℕ) → first (readTests w number s out) ≡ 0 → ReadPassed w number s out
@@ -130,13 +139,13 @@ module _ (w : Window) (g : List ℕ) (s : Store) (stands : None (standingTests w
       first-append (standingTests w s 0 0 ++ mediaTests (w .p) g) (mediaPlaceTests w g s) (none-join (standingTests w s 0 0) (mediaTests (w .p) g) stands faultless)
       ∙ none-first (mediaPlaceTests w g s) (rw (lt-ltb (position w (sequenceNumber g)) (w .n) in-window), (rw new, (ap not new, tt)))
 
-  -- none applies to parity of a group of the window that is not in hand, if there is room where it has to wait
+  -- none applies to parity of a group of the window that is not in hand and that it does not contradict, if there is room where it has to wait
   pub parity-passes : (stream : ℕ) → None (parityTests stream (w .l) (w .d) (w .p) g) → inside w stream (snbase g) ≡ true → any (holds w s stream (snbase g)) (upTo (rows w)) ≡ false
-      → w .«in_use» < parityRoom w → first (parityOfferTests w stream g s) ≡ 0
-  parity-passes stream faultless in-window new has-room =
+      → contradicts w stream g s ≡ false → w .«in_use» < parityRoom w → first (parityOfferTests w stream g s) ≡ 0
+  parity-passes stream faultless in-window new agrees has-room =
       first-append (standingTests w s 0 0 ++ parityTests stream (w .l) (w .d) (w .p) g) (parityPlaceTests w stream g s)
       (none-join (standingTests w s 0 0) (parityTests stream (w .l) (w .d) (w .p) g) stands faultless)
-      ∙ none-first (parityPlaceTests w stream g s) (ap not in-window, (unlike, (new, (rw (lt-ltb (w .«in_use») (parityRoom w) has-room) (and-false (leb leastMissing (length (missing (s .marks) (group w stream (snbase g)))))), tt))))
+      ∙ none-first (parityPlaceTests w stream g s) (ap not in-window, (unlike, (new, (agrees, (rw (lt-ltb (w .«in_use») (parityRoom w) has-room) (and-false (leb leastMissing (length (missing (s .marks) (group w stream (snbase g)))))), tt)))))
     where
       unlike : any (holdsSame w s stream g) (upTo (rows w)) ≡ false
       unlike = false-any (holdsSame w s stream g) (rows w) (λ r l. rw (any-false (holds w s stream (snbase g)) (rows w) new r l))

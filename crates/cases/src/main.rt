@@ -313,6 +313,16 @@ fn lengths_disorder() {
     mixed(b"kept lengths out of order\n", &script::LENGTHS_DISORDER);
 }
 
+// ---- request 6: parity that lies
+
+// Refusal 18.
+fn lies() {
+    mixed(
+        b"parity over a whole group, which lies in a field each\n",
+        &script::LIES,
+    );
+}
+
 fn main() {
     groups();
     case_10_11();
@@ -333,4 +343,5 @@ fn main() {
     spoilt();
     past_lengths();
     lengths_disorder();
+    lies();
 }

@@ -583,3 +583,30 @@ pub const LENGTHS_DISORDER: [u64; 30] = [
     SHOW,
     LENGTHS,
 ];
+
+// ---- request 6: parity that lies
+
+// A whole group, of payloads of two units and of one: its parity is true, then lies in a field each. Then a lie where one is missing, which
+// is not seen: it rebuilds 1, and the true packet and the true parity are refused.
+pub const LIES: [u64; 20] = [
+    MEDIA + 65530,
+    MEDIA + 65531,
+    MEDIA + 65532,
+    MEDIA + 65533,
+    COLUMN + 65530,
+    COLUMN + 65530 + BYTE_7 + 9 * IS,
+    COLUMN + 65530 + BYTE_23 + 9 * IS,
+    COLUMN + 65530 + RECOVERS + 188 * IS,
+    COLUMN + 65530 + BYTE_16 + 161 * IS,
+    COLUMN + 65530 + BYTE_215 + 9 * IS,
+    COLUMN + 65530 + BYTE_403 + 9 * IS,
+    COLUMN + 65530 + LENGTH + 216 * IS,
+    MEDIA + 65534,
+    MEDIA + 65535,
+    MEDIA + 0,
+    COLUMN + 65534 + BYTE_23 + 9 * IS,
+    MEDIA + 1,
+    COLUMN + 65531,
+    COLUMN + 65534 + LENGTH + 404 * IS,
+    COLUMN + 65534,
+];

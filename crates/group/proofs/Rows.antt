@@ -62,6 +62,13 @@ module _ (w : Window) (based : w .base < 2 ^ width) (u : SetUp w) (stream snbase
         below = rw are (below-keep (w .n) (λ i. not (isMissing marks i)) (along (w .base) snbase offset na) (below-map (w .n) (memberAt (w .base) snbase offset) na (along-below w based u stream snbase inside offset na eo en)));
       }
 
+-- the first k bytes of the exclusive-or of some rows
+pub sum-front : (k p : ℕ) (media lengths : List ℕ) → k ≤ p → (l : List ℕ) → xorPayloads k (map (rowOf p k media lengths) l) ≡ take k (xorPayloads p (map (rowOf p p media lengths) l))
+sum-front k p media lengths b [] = sym (take-replicate k p b)
+sum-front k p media lengths b (i ∷ l) =
+    ap₂ zipXor (sym (take-padded k p (take (getD lengths i 0) (drop (i * p) media)) b)) (sum-front k p media lengths b l)
+    ∙ sym (take-zip k (rowOf p p media lengths i) (xorPayloads p (map (rowOf p p media lengths) l)))
+
 -- ---- the members held of a group
 module _ (group marks : List ℕ) (n : ℕ) (rows : List ℕ) (m : ℕ) (h : Held group marks n rows m) where
   m-long : m ≤ length rows
@@ -86,13 +93,7 @@ module _ (group marks : List ℕ) (n : ℕ) (rows : List ℕ) (m : ℕ) (h : Hel
 
   -- the first n bytes of their exclusive-or
   pub payloads-front : (p k : ℕ) (media lengths : List ℕ) → k ≤ p → xorPayloads k (map (rowOf p k media lengths) (take m rows)) ≡ take k (xorPayloads p (map (rowOf p p media lengths) (present marks group)))
-  payloads-front p k media lengths b = ap (λ (l : List ℕ). xorPayloads k (map (rowOf p k media lengths) l)) (h .are) ∙ go (present marks group)
-    where
-      go : (l : List ℕ) → xorPayloads k (map (rowOf p k media lengths) l) ≡ take k (xorPayloads p (map (rowOf p p media lengths) l))
-      go [] = sym (take-replicate k p b)
-      go (i ∷ l) =
-          ap₂ zipXor (sym (take-padded k p (take (getD lengths i 0) (drop (i * p) media)) b)) (go l)
-          ∙ sym (take-zip k (rowOf p p media lengths i) (xorPayloads p (map (rowOf p p media lengths) l)))
+  payloads-front p k media lengths b = ap (λ (l : List ℕ). xorPayloads k (map (rowOf p k media lengths) l)) (h .are) ∙ sum-front k p media lengths b (present marks group)
 
 -- ---- a group inside a window, by its definition
 module _ (w : Window) (based : w .base < 2 ^ width) (u : SetUp w) (stream snbase : ℕ) (inside : Inside w stream snbase) where

@@ -4,24 +4,25 @@ use window::Look;
 use window::Window;
 ghost use mathlib.Core.Path.{_≡_};
 ghost use mathlib.Core.Bool.{true, false, _&&_};
-ghost use mathlib.Core.List.{map};
+ghost use mathlib.Core.List.{List, map};
 ghost use Prim.Native.Nat.{ℕ, max, _+_, _*_, _≤_, _<_};
 ghost use lib.Dec.{eqb};
 ghost use lib.ListN.{length, getD, drop, take};
 ghost use lib.Seq.{paste};
 ghost use lib.Bits.{bitXor};
-ghost use Rattle.sequence.specs.Lists.{all};
+ghost use Rattle.sequence.specs.Lists.{all, any};
 ghost use Rattle.sequence.specs.Wrap.{member};
 ghost use Rattle.xor.specs.Xor.{xorAll, xorPayloads, padded};
 ghost use Rattle.rtp.specs.Length.{wholeUnits};
-ghost use Rattle.window.specs.Store.{payloadIn};
+ghost use Rattle.window.specs.declared.Record.{Record};
+ghost use Rattle.window.specs.Store.{payloadIn, stored};
 ghost use Rattle.window.specs.Limits.{width, mostSide};
 ghost use Rattle.window.specs.Bounds.{SetUp};
 ghost use Rattle.window.specs.declared.Look.the-variants.{One};
 ghost use Rattle.window.specs.Group.{group, isMissing, present};
 ghost use Rattle.window.specs.Look.{look};
 ghost use Rattle.window.specs.Plain.{Inside};
-ghost use Rattle.calls.specs.Content.{longest, numberOver, payloadOver};
+ghost use Rattle.calls.specs.Content.{longest, numberOver, payloadOver, sameRecovery, recoveryOver};
 ghost use Rattle.group.specs.Along.{memberAt, along, Next};
 ghost use Rattle.group.specs.Held.{Held};
 ghost use Rattle.group.specs.Tried.{Tried};
@@ -231,6 +232,47 @@ pub fn sum_up(
         length: r.all,
         size,
     }
+}
+
+// Whether a recovery, of which `size` payload bytes stand in a slice from a place on, is the one that a group defines, all of which is present.
+pub fn defines(
+    w: Window,
+    stream: u8,
+    snbase: u16,
+    timestamp: u32,
+    length_recovery: u16,
+    size: usize,
+    recovery: &[u8],
+    from: usize,
+    media: &[u8],
+    timestamps: &[u32],
+    lengths: &[u16],
+    marks: &[u8],
+) -> bool
+    requires { ⌜ SetUp w × Inside w stream snbase × (any (isMissing (now marks)) (group w stream snbase) ≡ false) × (size ≤ w .p) × (from + size ≤ length (now recovery))
+        × (w .n * w .p ≤ length (now media)) × (w .n ≤ length (now timestamps)) × (w .n ≤ length (now lengths)) × (w .n ≤ length (now marks)) × ((i : ℕ) → i < w .n → isMissing (now marks) i ≡ false → getD (now lengths) i 0 ≤ w .p) ⌝ }
+    ensures { λ r. ⌜ ((parity : List ℕ) (t : List Record) → r ≡ sameRecovery (recoveryOver w (stored (now (media .entry)) (now (timestamps .entry)) (now (lengths .entry)) (now (marks .entry)) parity t) (group w stream snbase))
+        (record { content = record { timestamp = timestamp; length = «length_recovery»; payload = padded (w .p) (take size (drop from (now (recovery .entry)))) }; size = size })) ⌝ }
+{
+    let mut sum = [0u8; 1428];
+    let r = sum_up(
+        &mut sum,
+        0,
+        w,
+        stream,
+        snbase,
+        media,
+        timestamps,
+        lengths,
+        marks,
+    );
+    if r.size != size {
+        return false;
+    }
+    if (r.timestamp != timestamp) | (r.length != length_recovery) {
+        return false;
+    }
+    xor::same_at(&sum, 0, recovery, from, size)
 }
 
 // ---- the one missing packet

@@ -9,7 +9,7 @@ use lib.ListN.{length, getD}
 use lib.Dec.{eqb}
 use Rattle.answer.specs.declared.Answer.{Answer}
 use Rattle.answer.specs.declared.Answer.the-variants.{Done}
-use Rattle.answer.specs.Number.{spoiltOf}
+use Rattle.answer.specs.Number.{numberOf, spoiltOf}
 use Rattle.xor.specs.Xor.{padded}
 use Rattle.sequence.specs.Lists.{count}
 use Rattle.sequence.specs.Wrap.{numberAt}
@@ -186,11 +186,13 @@ pub record Hidden (w : Window) (received : List Name) (S : ℕ → Bool) : Type 
   pub never-one : (stream snbase : ℕ) → Received received (parityName stream snbase) → count S (group w stream snbase) ≢ 1
 
 -- "every packet present equals the one sent in number, timestamp and payload", this at its true length; "a packet is missing exactly when it
--- belongs to such a set"; and "for unaltered traffic that count is zero": no answer counts a parity packet as spoilt (02, request 1)
+-- belongs to such a set"; "for unaltered traffic that count is zero": no answer counts a parity packet as spoilt (02, request 1); and "unaltered
+-- traffic never meets it": no answer is 18, that a parity packet contradicts its group (02, request 6)
 pub record Demand3 (w : Window) (t : Stretch) (received : List Name) (answered : List Answer) (s : Store) : Type 0 where
   pub mark : (i : ℕ) → i < w .n → (markAt s i ≡ 0) ⊎ (markAt s i ≡ 1)
   pub present : (i : ℕ) → i < w .n → markAt s i ≡ 1 → contentAt w s i ≡ contentSent w t i
   pub unspoilt : (a : Answer) → List·Memᴰ a answered → spoiltOf a ≡ 0
+  pub believed : (a : Answer) → List·Memᴰ a answered → numberOf a ≢ 18
   pub missing : (i : ℕ) → i < w .n → (markAt s i ≡ 0) ↔ ((S : ℕ → Bool) × Hidden w received S × (S i ≡ true))
 
 -- ---- the claims, proved in Theorem.antt: demand3 and demand3-same. Start.antt has them from any store in order

@@ -8,6 +8,8 @@ pub mod Zero
 pub mod Bench
 pub mod Night
 pub mod Spoilt
+pub mod Agreed
+pub mod Told
 pub mod Ranges
 pub mod Packets
 pub mod Lengths
@@ -22,6 +24,7 @@ pub mod Offers
 pub mod Wire
 pub mod Sent
 pub mod Names
+pub mod Lying
 pub mod Fine
 pub mod Opening
 pub mod Recount

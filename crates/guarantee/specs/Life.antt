@@ -131,6 +131,14 @@ ClaimLife =
     → GivenLife (asked base ssrc l d p n k) lent feed events x
     → Lived (asked base ssrc l d p n k) feed x
 
+-- at any moment of it an unaltered packet of the stretch that the window stands over is not answered 18: where an offer is, it was altered
+abbrev pub ClaimBelieved : Type 0
+ClaimBelieved =
+    (base ssrc l d p n k : ℕ) (lent : Store) (feed : Feed) (events : List Event) (x : Life) (o : Offer)
+    → GivenLife (asked base ssrc l d p n k) lent feed events x
+    → Unaltered (x .window) (under feed x) o
+    → numberOf (offered o (x .window) (x .store) .answer) ≢ 18
+
 -- a move that is carried out hands out one datagram for each position that it moves by
 abbrev pub ClaimOneEach : Type 0
 ClaimOneEach = (count spoilt : ℕ) (w : Window) (by : ℕ) (y : Moved) → length (handedOut (Done count spoilt) w by y) ≡ by

@@ -16,29 +16,32 @@ use Rattle.answer.specs.First.{first}
 use Rattle.sequence.specs.Lists.{upTo, length-upTo}
 use Rattle.sequence.specs.Wrap.{numberAt, numberAt-onward}
 use Rattle.rtp.specs.Rtp.{sequenceNumber}
-use Rattle.rtp.specs.Fec.{column, row}
+use Rattle.rtp.specs.Fec.{column, row, snbase}
 use Rattle.window.specs.declared.Window.{Window}
 use Rattle.window.specs.Limits.{width}
 use Rattle.window.specs.Store.{Store}
 use Rattle.window.specs.Group.{position}
-use Rattle.calls.specs.Content.{contentAt}
+use Rattle.calls.specs.Content.{contentAt, sameRecovery}
+use Rattle.calls.specs.Accept.{recoveryOf}
 use Rattle.calls.specs.Datagram.{mediaPacket}
 use Rattle.calls.specs.State.{recount}
 use Rattle.calls.specs.Call.{Outcome, standingTests, mediaOfferTests, parityOfferTests, offeredMedia, offeredParity, asked, opened, cleared}
 use Rattle.calls.specs.Passed.{media-passed, parity-passed, none-first}
 use Rattle.calls.specs.Move.{Moved, moveTests, advanced, leaving, movedOn, moved}
+use Rattle.guarantee.specs.View.{mark-one}
 use Rattle.guarantee.specs.Order.{set-up-passes, stands, start-limits, start-ordered}
 use Rattle.guarantee.specs.Recount.{fills-on, holds-on}
 use Rattle.guarantee.specs.Accepted.{Settled}
+use Rattle.guarantee.specs.Lying.{recovery-self, media-believed, parity-lies, contradicted}
 use Rattle.guarantee.specs.Offers.{paritySeen, media-kept, parity-kept, media-accepted, parity-accepted}
-use Rattle.guarantee.specs.Sent.{seen}
-use Rattle.guarantee.specs.Kept.{holds-again}
+use Rattle.guarantee.specs.Sent.{seen, parity-read}
+use Rattle.guarantee.specs.Kept.{recovery-agrees, holds-again}
 use Rattle.guarantee.specs.Opening.{opening, opened-start}
-use Rattle.guarantee.specs.Demand3.{Port, mediaPort, columnPort, rowPort, Offer, callOf, offered, Stretch, Fills, contentSent, UnalteredMedia, UnalteredOn, Unaltered, markAt}
+use Rattle.guarantee.specs.Demand3.{Port, mediaPort, columnPort, rowPort, Offer, callOf, offered, Stretch, Fills, contentSent, UnalteredMedia, UnalteredParity, UnalteredOn, Unaltered, markAt}
 use Rattle.guarantee.specs.Start.{Start, SameSetUp}
 use Rattle.guarantee.specs.Theorem.{demand3-from}
 use Rattle.guarantee.specs.Moving.{onward, slotOf}
-use Rattle.guarantee.specs.Life.{Event, offer, move, Life, born, moving, afterOne, after, Feed, Feeds, hasPlace, under, Fair, AllFair, Lived, ClaimOutside, ClaimLife, ClaimOneEach, nextGets, ClaimThen}
+use Rattle.guarantee.specs.Life.{Event, offer, move, Life, born, moving, afterOne, after, Feed, Feeds, hasPlace, under, Fair, AllFair, Lived, ClaimOutside, ClaimLife, ClaimBelieved, ClaimOneEach, nextGets, ClaimThen}
 use Rattle.guarantee.specs.Slots.{map-at, slot-read}
 use Rattle.guarantee.specs.Moved.{move-ways, move-done, move-within, moved-set-up, moved-start, leaving-sent}
 
@@ -228,6 +231,26 @@ pub life : ClaimLife
 life base ssrc l d p n k lent feed events x G =
     let w : Window = asked base ssrc l d p n k in
     subst (Lived w feed) (G .is) (lived-after (G .feeds) events (born (opened w lent)) (lived-born w lent (G .base-fits) (G .feeds) refl refl (G .fresh)) (G .fair))
+
+module _ {w : Window} {t : Stretch} {s : Store} (S : Start w t s) where
+  -- from a start, an unaltered parity packet does not contradict its group
+  parity-believed : (stream : ℕ) → stream ≤ 1 → (g : List ℕ) → UnalteredParity w t stream g → numberOf (offeredParity stream w g s .answer) ≢ 18
+  parity-believed stream hs g u e =
+      let z = parity-lies stream w g s e in
+      let c = contradicted w s stream g (z .1) in
+      let r = parity-read (start-limits S) (S .fills) stream hs g u in
+      let q = recovery-agrees w t s (λ i h n. S .holds .media i h (mark-one (start-ordered S .good) i h n)) stream (snbase g) (z .0) (c .0) in
+      true≢false (sym (recovery-self (recoveryOf (w .p) g)) ∙ ap (λ v. sameRecovery v (recoveryOf (w .p) g)) (r .carries ∙ sym q) ∙ c .1)
+
+  -- so no unaltered packet is answered 18
+  offer-believed : (p : Port) (g : List ℕ) → UnalteredOn w t p g → numberOf (callOf p w g s .answer) ≢ 18
+  offer-believed mediaPort g u = media-believed w g s
+  offer-believed columnPort g u = parity-believed column (omega arith) g u
+  offer-believed rowPort g u = parity-believed row (omega arith) g u
+
+-- at any moment of a life
+pub life-believed : ClaimBelieved
+life-believed base ssrc l d p n k lent feed events x o G u = offer-believed (life base ssrc l d p n k lent feed events x G .start) (o .port) (o .datagram) u
 
 -- what the window has no place for is refused
 outside-port : (w : Window) (s : Store) (p : Port) (g : List ℕ) → hasPlace w p g ≡ false → numberOf (callOf p w g s .answer) ≢ 0

@@ -1,13 +1,13 @@
 -- A list of offers as a run of the theory that keeps the invariant of Fine.antt.
 use mathlib.Core.Path.{_≡_, refl, sym, ap, _∙_, subst}
-use mathlib.Core.Logic.{_⊎_, inl, inr, ⊎-elim}
+use mathlib.Core.Logic.{_≢_, _⊎_, inl, inr, ⊎-elim}
 use mathlib.Core.Bool.{Bool, true, false, cond, and-true, true≢false}
 use mathlib.Core.List.{List, [], _∷_, _++_, map, List·Memᴰ, List·Memᴰ·head, List·Memᴰ·tail, List·Memᴰ·not-nil, List·Memᴰ·cases-cons, Memᴰ·cast, Memᴰ·map, Memᴰ·append-left, Memᴰ·append-right}
 use Prim.Native.Nat.{ℕ, _≤_}
 use native.Mathlib.Omega.{arith}
 use lib.ListN.{length}
 use Rattle.answer.specs.declared.Answer.{Answer}
-use Rattle.answer.specs.Number.{spoiltOf}
+use Rattle.answer.specs.Number.{numberOf, spoiltOf}
 use Rattle.sequence.specs.Lists.{upTo}
 use Rattle.rtp.specs.Fec.{column, row, snbase}
 use Rattle.window.specs.declared.Window.{Window}
@@ -25,6 +25,7 @@ use Rattle.guarantee.specs.Packets.{Packet}
 use Rattle.guarantee.specs.View.{code, view}
 use Rattle.guarantee.specs.Recount.{fills-on, holds-on, unaltered-on}
 use Rattle.guarantee.specs.Order.{Ordered, limits, set-up-passes, standing}
+use Rattle.guarantee.specs.Lying.{Lying, lying-then, lying-more}
 use Rattle.guarantee.specs.Fine.{Opened, Fine, Goes, fine-media, fine-parity, refused-parity}
 use Rattle.guarantee.specs.Demand3.{Port, mediaPort, columnPort, rowPort, Offer, callOf, offered, run, answers, Stretch, Fills, UnalteredOn, Unaltered, Name, parityName, nameOn, nameOf, namesOf, groupNamed, distinctGroups}
 use Rattle.guarantee.specs.Start.{Holds, mediaHeld, parityHeld, every, counts, counted, receivedFrom, GivenFrom}
@@ -44,11 +45,13 @@ module _ (w : Window) (D : List (ℕ × ℕ)) where
   outside-refused columnPort g e f = refused-parity column g (rw and-true at e) f
   outside-refused rowPort g e f = refused-parity row g (rw and-true at e) f
 
-  -- what a list of offers leaves: the invariant, by a run of the theory; where an answer counts a check as spoilt, one was found so
+  -- what a list of offers leaves: the invariant, by a run of the theory; where an answer counts a check as spoilt, one was found so, and where
+  -- one is 18, a check lies
   pub record Arrived (os : List (Theory.Offer (ℕ × ℕ) Recovery Packet)) (s : Store) (answered : List Answer) (x : Outcome) : Type 1 where
     pub fine : Fine w D (x .window) (x .store)
     pub runs : Theory.Runs (code w) (view w s) os (view w (x .store))
     pub clear : (a : Answer) → List·Memᴰ a answered → (spoiltOf a ≡ 0) ⊎ Theory.Spoiling (code w) (view w s) os
+    pub believed : (a : Answer) → List·Memᴰ a answered → (numberOf a ≢ 18) ⊎ Lying w s os
 
   -- a call, then a list
   call-then : {os ps : List (Theory.Offer (ℕ × ℕ) Recovery Packet)} {s : Store} {answered : List Answer} {x y : Outcome}
@@ -58,13 +61,15 @@ module _ (w : Window) (D : List (ℕ × ℕ)) where
     runs = Theory.runs-then (code w) (a .runs) (b .runs);
     clear = λ z m. ⊎-elim (λ e. ⊎-elim (λ c. inl (ap spoiltOf e ∙ c)) (λ c. inr (Theory.spoiling-more (code w) ps c)) (a .clear))
         (λ n. ⊎-elim inl (λ c. inr (Theory.spoiling-then (code w) (a .runs) c)) (b .clear z n)) (List·Memᴰ·cases-cons m);
+    believed = λ z m. ⊎-elim (λ e. ⊎-elim (λ c. inl (λ q. c (ap numberOf (sym e) ∙ q))) (λ c. inr (lying-more ps c)) (a .believed))
+        (λ n. ⊎-elim inl (λ c. inr (lying-then (a .runs) c)) (b .believed z n)) (List·Memᴰ·cases-cons m);
   }
 
   -- a list of which each that counts keeps the invariant
   fine-run : (offers : List Offer) → ((o : Offer) → List·Memᴰ o (counted w offers) → Keeping o)
       → (x : Outcome) → Fine w D (x .window) (x .store) → Arrived (map (seen w) (counted w offers)) (x .store) (answers x offers) (run x offers)
   unfolding run answers
-  fine-run [] each x f = record { fine = f; runs = Theory.done; clear = λ a m. absurd (List·Memᴰ·not-nil m) }
+  fine-run [] each x f = record { fine = f; runs = Theory.done; clear = λ a m. absurd (List·Memᴰ·not-nil m); believed = λ a m. absurd (List·Memᴰ·not-nil m) }
   fine-run (o ∷ offers) each x f = go (counts w o) refl each (fine-run offers)
     where
       next : Outcome

@@ -1,7 +1,7 @@
 -- Demand 3 from any start (Start.antt) and from an opening (Demand3.antt), proved: a list is a run of the theory that keeps the invariant
 -- of Fine.antt, and the theory's theorems give the conclusions.
 use mathlib.Core.Path.{_≡_, refl, sym, ap, _∙_, subst}
-use mathlib.Core.Logic.{_⊎_, inl, inr, ⊎-elim}
+use mathlib.Core.Logic.{_≢_, _⊎_, inl, inr, ⊎-elim}
 use mathlib.Core.Bool.{Bool, true, false, _&&_, true≢false}
 use mathlib.Core.List.{List, [], _∷_, _++_, map, List·Memᴰ, List·Memᴰ·head, List·Memᴰ·tail}
 use Prim.Native.Nat.{ℕ, _<_, _≤_}
@@ -10,7 +10,7 @@ use lib.ListN.{length, take}
 use lib.Dec.{ltb}
 use borrow.Author.Tests.{eqb-true, lt-ltb, ltb-true}
 use Rattle.answer.specs.declared.Answer.{Answer}
-use Rattle.answer.specs.Number.{spoiltOf}
+use Rattle.answer.specs.Number.{numberOf, spoiltOf}
 use Rattle.sequence.specs.Lists.{and-split as both}
 use Rattle.sequence.specs.Wrap.{numberAt}
 use Rattle.rtp.specs.Fec.{column, row, snbase}
@@ -59,6 +59,10 @@ module _ {w : Window} {a u : ℕ} {s : Store} {t : Stretch} {offers : List Offer
   -- and no answer counts a check as spoilt
   unspoilt : (a : Answer) → List·Memᴰ a answered → spoiltOf a ≡ 0
   unspoilt a m = ⊎-elim (λ e. e) (λ b. absurd (never-spoilt (code w) (sent w t) unaltered b)) (arrived .clear a m)
+
+  -- or is 18
+  believed : (a : Answer) → List·Memᴰ a answered → numberOf a ≢ 18
+  believed a m e = ⊎-elim (λ n. n e) (Kept.never-lying L (R .fills) (R .ordered .good) (R .holds) (R .unaltered)) (arrived .believed a m)
 
   -- all that the store holds is unaltered again
   holds-again : Holds w t (y .store)
@@ -112,6 +116,7 @@ module _ {w : Window} {a u : ℕ} {s : Store} {t : Stretch} {offers : List Offer
       mark = λ i h. ⊎-elim (λ e. inl (eqb-true (markAt (y .store) i) 0 e)) (λ e. inr (mark-one (arrived .fine .order .good) i h e)) (decide (isMissing (y .store .marks) i));
       present = holds-again .media;
       unspoilt = unspoilt;
+      believed = believed;
       missing = λ i h. (
         λ e. (λ j. ltb j (w .n) && Theory.miss (view w (y .store)) j, missing-hidden, rw (lt-ltb i (w .n) h, miss-mark w (y .store) i h, e)),
         λ q. eqb-true (markAt (y .store) i) 0 (sym (miss-mark w (y .store) i h) ∙ missing-iff (code w) inv still i .1 (q .0, hidden-stopping (q .0) (q .1), q .2)),

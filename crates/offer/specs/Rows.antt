@@ -1,4 +1,4 @@
--- Refusals 13 to 16 of a parity datagram over the rows of a hand.
+-- Refusals 13 to 16 and 18 of a parity datagram over the rows of a hand.
 use mathlib.Core.Path.{_≡_}
 use mathlib.Core.Bool.{Bool, _&&_}
 use mathlib.Core.List.{List}
@@ -45,9 +45,9 @@ rowSame p parity hs stream g i =
     })
     (recoveryOf p g)
 
--- the first of refusals 13 to 16 that applies, or 0, and what is known where none does
-pub record Found (w : Window) (stream : ℕ) (g marks parity : List ℕ) (hs : List Row) (r : Placed) : Type 0 where
-  pub is : (media timestamps lengths : List ℕ) (t : List Record) → Fits t (w .k) hs → r .fault ≡ first (parityPlaceTests w stream g (stored media timestamps lengths marks parity (scatter hs t)))
+-- the first of refusals 13 to 15, 18 and 16 that applies, or 0, and what is known where none does
+pub record Found (w : Window) (stream : ℕ) (g media timestamps lengths marks parity : List ℕ) (hs : List Row) (r : Placed) : Type 0 where
+  pub is : (t : List Record) → Fits t (w .k) hs → r .fault ≡ first (parityPlaceTests w stream g (stored media timestamps lengths marks parity (scatter hs t)))
   pub inside : r .fault ≡ 0 → Inside w stream (snbase g)
   pub looked : r .fault ≡ 0 → r .found ≡ look marks (group w stream (snbase g))
   pub room : r .fault ≡ 0 → leastMissing ≤ atLeast (r .found) → w .«in_use» < w .k

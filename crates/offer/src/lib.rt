@@ -22,11 +22,12 @@ ghost use Rattle.window.specs.Limits.{mostRecords, mostCounted};
 ghost use Rattle.window.specs.Record.{blank};
 ghost use Rattle.window.specs.Store.{stored};
 ghost use Rattle.window.specs.Bounds.{SetUp};
-ghost use Rattle.window.specs.Group.{position, group, missing};
+ghost use Rattle.window.specs.Group.{position, group, isMissing, missing};
+ghost use Rattle.window.specs.Look.{look};
 ghost use Rattle.window.specs.Order.{used};
 ghost use Rattle.window.specs.Plain.{Inside};
 ghost use Rattle.calls.specs.Accept.{acceptMedia, acceptParity};
-ghost use Rattle.calls.specs.Call.{begun, mediaPlaceTests, offeredMedia, offeredParity};
+ghost use Rattle.calls.specs.Call.{begun, mediaPlaceTests, contradicts, offeredMedia, offeredParity};
 ghost use Rattle.table.specs.View.{hand, slotAt, itAt};
 ghost use Rattle.table.specs.Hold.{gapFrom};
 ghost use Rattle.order.specs.Stands.{Stood};
@@ -253,7 +254,41 @@ fn any_same(w: Window, stream: u8, datagram: &[u8], parity: &[u8], rows: &[u32],
     found
 }
 
-// The first of refusals 13 to 16 that applies to a parity datagram, or 0, and what a look at its group finds.
+// The group of a parity datagram is found whole, and defines another recovery.
+fn contradicts(
+    w: Window,
+    stream: u8,
+    datagram: &[u8],
+    found: Look,
+    media: &[u8],
+    timestamps: &[u32],
+    lengths: &[u16],
+    marks: &[u8],
+) -> bool
+    requires { ⌜ SetUp w × Inside w stream (fec.snbase (now datagram)) × (found ≡ look (now marks) (group w stream (fec.snbase (now datagram)))) × Fitting parityHeaderSize (w .p) (now datagram)
+        × (w .n * w .p ≤ length (now media)) × (w .n ≤ length (now timestamps)) × (w .n ≤ length (now lengths)) × (w .n ≤ length (now marks)) × ((i : ℕ) → i < w .n → isMissing (now marks) i ≡ false → getD (now lengths) i 0 ≤ w .p) ⌝ }
+    ensures { λ r. ⌜ ((parity : List ℕ) (t : List Record) → r ≡ contradicts w stream (now (datagram .entry)) (stored (now (media .entry)) (now (timestamps .entry)) (now (lengths .entry)) (now (marks .entry)) parity t)) ⌝ }
+{
+    if window::lacks(found) {
+        return false;
+    }
+    !group::defines(
+        w,
+        stream,
+        rtp::snbase(datagram),
+        rtp::timestamp_recovery(datagram),
+        rtp::length_recovery(datagram),
+        datagram.len() - rtp::PARITY_HEADERS,
+        datagram,
+        rtp::PARITY_HEADERS,
+        media,
+        timestamps,
+        lengths,
+        marks,
+    )
+}
+
+// The first of refusals 13 to 15, 18 and 16 that applies to a parity datagram, or 0, and what a look at its group finds.
 pub struct Placed {
     pub fault: u8,
     pub found: Look,
@@ -273,13 +308,17 @@ fn parity_place_fault(
     w: Window,
     stream: u8,
     datagram: &[u8],
+    media: &[u8],
+    timestamps: &[u32],
+    lengths: &[u16],
     marks: &[u8],
     parity: &[u8],
     rows: &[u32],
     m: usize,
 ) -> Placed
-    requires { ⌜ SetUp w × (w .n ≤ length (now marks)) × (w .k * w .p ≤ length (now parity)) × (length (hand (now rows)) ≡ m) × ((i : ℕ) → i < m → used (itAt (hand (now rows)) i) ≡ true → slotAt (hand (now rows)) i < w .k) × Fitting parityHeaderSize (w .p) (now datagram) ⌝ }
-    ensures { λ r. ⌜ Found w stream (now (datagram .entry)) (now (marks .entry)) (now (parity .entry)) (hand (now (rows .entry))) r ⌝ }
+    requires { ⌜ SetUp w × (w .n ≤ length (now marks)) × (w .k * w .p ≤ length (now parity)) × (length (hand (now rows)) ≡ m) × ((i : ℕ) → i < m → used (itAt (hand (now rows)) i) ≡ true → slotAt (hand (now rows)) i < w .k) × Fitting parityHeaderSize (w .p) (now datagram)
+        × (w .n * w .p ≤ length (now media)) × (w .n ≤ length (now timestamps)) × (w .n ≤ length (now lengths)) × ((i : ℕ) → i < w .n → isMissing (now marks) i ≡ false → getD (now lengths) i 0 ≤ w .p) ⌝ }
+    ensures { λ r. ⌜ Found w stream (now (datagram .entry)) (now (media .entry)) (now (timestamps .entry)) (now (lengths .entry)) (now (marks .entry)) (now (parity .entry)) (hand (now (rows .entry))) r ⌝ }
 {
     let snbase = rtp::snbase(datagram);
     if !w.group_inside(stream, snbase) {
@@ -292,6 +331,18 @@ fn parity_place_fault(
         return refused_place(15);
     }
     let found = group::look(w, marks, stream, snbase);
+    if contradicts(
+        w,
+        stream,
+        datagram,
+        found,
+        media,
+        timestamps,
+        lengths,
+        marks,
+    ) {
+        return refused_place(18);
+    }
     if window::waits(found) & !(w.in_use < w.k) {
         return refused_place(16);
     }
@@ -446,7 +497,18 @@ pub fn offer_parity(
     if wrong != 0 {
         return refused(w, wrong);
     }
-    let place = parity_place_fault(w, stream, datagram, marks, parity, rows, m);
+    let place = parity_place_fault(
+        w,
+        stream,
+        datagram,
+        media,
+        timestamps,
+        lengths,
+        marks,
+        parity,
+        rows,
+        m,
+    );
     if place.fault != 0 {
         return refused(w, place.fault);
     }

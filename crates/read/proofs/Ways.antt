@@ -7,11 +7,10 @@ use native.Mathlib.Omega.{arith}
 use lib.Dec.{ltb}
 use lib.ListN.{length, getD, take, drop, length-drop}
 use lib.Seq.{paste, sets}
-use lib.Bits.{xor-zero-l}
 use borrow.Author.Tests.{lt-ltb, le-ltb, eq-eqb, ne-eqb, not-false}
 use Rattle.answer.specs.declared.Answer.the-variants.{Done, Refused}
 use Rattle.answer.specs.First.{first, first-hit, first-past, first-end, first-none}
-use Rattle.xor.specs.Xor.{xorAll, xorPayloads, padded}
+use Rattle.xor.specs.Xor.{xorPayloads, padded}
 use Rattle.rtp.specs.Rtp.{rtpHeaderSize, mediaType, parityType, rtpHeader}
 use Rattle.rtp.specs.Fec.{parityHeaderSize, fecHeader}
 use Rattle.parity.specs.Own.{length-own, length-sum}
@@ -25,12 +24,13 @@ use Rattle.calls.specs.Datagram.{mediaPacket, Outer}
 use Rattle.calls.specs.Call.{Written, standingTests, over, readTests, readOut, writeTests, parityOf, wroteParity}
 use Rattle.calls.specs.Standing.{standing-known, standing-stops, standing-goes}
 use Rattle.group.proofs.Rows.{row-ends}
+use Rattle.group.proofs.Defined.{all-present, summed}
 use Rattle.table.specs.View.{Row, scatter}
 use Rattle.table.specs.Apart.{length-scatter}
 use Rattle.order.specs.Stands.{Taken, Stands, Stood}
 use Rattle.read.specs.Tests.{sizes, groupTests}
 use Rattle.xor.specs.Laid.{laid}
-use Rattle.read.proofs.Lay.{front, keep-all}
+use Rattle.read.proofs.Lay.{front}
 
 -- a call that is refused leaves the output
 abbrev pub no : ℕ → Window → List ℕ → Written
@@ -112,11 +112,7 @@ lies-inside w stream snbase marks k f y = not-false (inside w stream snbase) (fi
 
 -- and all of it is there
 whole : (w : Window) (stream snbase : ℕ) (marks : List ℕ) (k : ℕ) → k ≡ first (groupTests w stream snbase marks) → k ≡ 0 → present marks (group w stream snbase) ≡ group w stream snbase
-whole w stream snbase marks k f y = keep-all (isMissing marks) (group w stream snbase) (first-none (groupTests w stream snbase marks) (tt, (tt, (tt, tt))) (sym f ∙ y) .1 .1 .0)
-
--- numbers xored over a group of which all is there, from 0 on
-summed : (part marks group : List ℕ) → present marks group ≡ group → numberOver part marks group 0 ≡ xorAll (map (λ i. getD part i 0) group)
-summed part marks group all = xor-zero-l (xorAll (map (λ i. getD part i 0) (present marks group))) ∙ ap (λ (l : List ℕ). xorAll (map (λ i. getD part i 0) l)) all
+whole w stream snbase marks k f y = all-present marks (group w stream snbase) (first-none (groupTests w stream snbase marks) (tt, (tt, (tt, tt))) (sym f ∙ y) .1 .1 .0)
 
 module _ (stream : ℕ) (w : Window) (snbase : ℕ) (o : Outer) (s : Store) (out : List ℕ) where
   -- a test applies

@@ -10,9 +10,8 @@ use lib.Dec.{eqb}
 use lib.ListN.{length, take, drop, replicate, length-append, length-take, length-drop, length-replicate, replicate-append-replicate, take-append-drop}
 use native.Mathlib.Nat.{zero-add}
 use lib.Seq.{paste, take-at, drop-at, take-all, take-nil, take-take, drop-drop, take-append-le, take-append-add, length-take-le, take-paste, drop-paste}
-use borrow.Author.Tests.{eq-eqb}
 use Rattle.xor.specs.Xor.{zipXor, xorAt, padded, take-zip, length-zip}
-use Rattle.xor.specs.Same.{same}
+use Rattle.xor.specs.Same.{same, same-self}
 
 -- n zeros
 abbrev pub zeros : ℕ → List ℕ
@@ -64,10 +63,6 @@ padded-cut n m p l (inr (e, b)) h =
     ∙ sym (padded-full p (take m l) (length-take-le m l h ∙ e))
 
 -- ---- comparing
-same-self : (l : List ℕ) → same l l ≡ true
-same-self [] = refl
-same-self (a ∷ l) = rw (eq-eqb a a refl) (same-self l)
-
 same-append : (a b z : List ℕ) → length a ≡ length b → same (a ++ z) (b ++ z) ≡ same a b
 same-append [] [] z e = same-self z
 same-append [] (y ∷ b) z e = absurd (omega (arith, e))
@@ -151,3 +146,36 @@ xor-padded d at s m p h hd hs =
     ∙ append-assoc (take at d) (A ++ take (p - m) (drop m D)) (drop (at + p) d)
     ∙ ap (λ (r : List ℕ). take at d ++ r) (append-assoc A (take (p - m) (drop m D)) (drop (at + p) d) ∙ ap₂ (λ (y z : List ℕ). y ++ z) (sym (take-zip m D s)) back)
     ∙ sym (append-assoc (take at d) (take m (zipXor D s)) (drop (at + m) d)))
+
+-- zeros are put to zeros
+pub padded-zeros : (k p : ℕ) → k ≤ p → padded p (zeros k) ≡ zeros p
+padded-zeros k p h =
+    let e : k + (p - k) ≡ p = omega arith in
+    let l = length-replicate {A = ℕ} k 0 in
+    padded-split p (zeros k) (omega (arith, l)) ∙ ap (λ (n : ℕ). zeros k ++ zeros (p - n)) l ∙ replicate-append-replicate {A = ℕ} k (p - k) 0 ∙ ap zeros e
+
+-- zeros up to k and then up to p are zeros up to p
+pub padded-twice : (k p : ℕ) (l : List ℕ) → length l ≤ k → k ≤ p → padded p (padded k l) ≡ padded p l
+padded-twice k p l h hp =
+    let lk = length-padded k l in
+    let e : k - length l + (p - k) ≡ p - length l = omega arith in
+    padded-split p (padded k l) (omega (arith, lk)) ∙ ap₂ (λ (x : List ℕ) (n : ℕ). x ++ zeros (p - n)) (padded-split k l h) lk ∙ append-assoc l (zeros (k - length l)) (zeros (p - k))
+    ∙ ap (λ (r : List ℕ). l ++ r) (replicate-append-replicate {A = ℕ} (k - length l) (p - k) 0 ∙ ap zeros e)
+    ∙ sym (padded-split p l (omega arith))
+
+zip-zeros : (n : ℕ) → zipXor (zeros n) (zeros n) ≡ zeros n
+zip-zeros zero = refl
+zip-zeros (suc n) = ap (λ (l : List ℕ). 0 ∷ l) (zip-zeros n)
+
+-- the exclusive-or of payloads of one length, with zeros up to p, is theirs with zeros up to p
+pub zip-padded : (p : ℕ) (a b : List ℕ) → length a ≡ length b → length a ≤ p → zipXor (padded p a) (padded p b) ≡ padded p (zipXor a b)
+zip-padded p a b e h =
+    let n : ℕ = length a in
+    let lz : length (zipXor a b) ≡ n = length-zip a b e in
+    let z : List ℕ = zeros (p - n) in
+    let ez : zipXor a b ++ z ≡ padded p (zipXor a b) = sym (padded-split p (zipXor a b) (omega (arith, lz)) ∙ ap (λ (k : ℕ). zipXor a b ++ zeros (p - k)) lz) in
+    ap₂ zipXor (padded-split p a h) (padded-split p b (omega (arith, e)) ∙ ap (λ (k : ℕ). b ++ zeros (p - k)) (sym e))
+    ∙ zip-append (a ++ z) b z
+    ∙ ap₂ (λ (x y : List ℕ). zipXor x b ++ zipXor y z) (take-at a z (length b) e) (drop-at a z (length b) e)
+    ∙ ap (λ (r : List ℕ). zipXor a b ++ r) (zip-zeros (p - n))
+    ∙ ez

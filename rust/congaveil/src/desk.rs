@@ -22,7 +22,8 @@ pub struct Counters {
     pub handed_out: u64,
     /// Packets that were missing then: lost for good.
     pub given_up: u64,
-    /// By answer: the first is of offers taken in, the others of offers and moves refused with that number.
+    /// By answer: the first is of offers taken in, the others of offers and moves refused with that number. Number 18 tells of wrong
+    /// packets, as alarms and spoilt do.
     pub answers: [u64; NUMBERS],
 }
 

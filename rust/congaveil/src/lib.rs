@@ -93,6 +93,8 @@
 //!   ahead of it, already there, no room for it now. A sender's `Outside` is a gap in what is to be sent: [`Sender::reopen`].
 //! - [`Differs`](Refusal::Differs) on media is **the alarm**: a packet already marked present differs from the one that
 //!   arrived. One of the two is wrong, and the one in the store may have gone to air.
+//! - [`Contradicts`](Refusal::Contradicts) is of parity whose group is present and gives another parity packet: it is wrong, or a packet
+//!   of its group is, which may have gone to air. Unaltered traffic never meets it; after one wrong packet, true parity may.
 //! - Refusals 6 to 12 are of a datagram of another kind, port or profile, or of a damaged one; 1 to 5 are a fault in the
 //!   card: set-up, buffers, or a store or room that somebody changed; so is 22, a move by 0 or by more positions than there are. 21 is
 //!   of a capture file alone.
@@ -158,6 +160,6 @@ pub const PAYLOAD_MAX: usize = 7 * 204;
 pub const POSITIONS_MAX: usize = 400;
 /// The most records that a window may have.
 pub const RECORDS_MAX: usize = 128;
-/// The size of a table of answers by their number: above every number of this library. The calls of a receiver answer 0, 1 to 17 and 22, a
-/// sender some of these; 18 to 20 are not used, and 21 is of capture files alone.
+/// The size of a table of answers by their number: above every number of this library. The calls of a receiver answer 0, 1 to 18 and 22, a
+/// sender some of these; 19 and 20 are not used, and 21 is of capture files alone.
 pub const NUMBERS: usize = 23;

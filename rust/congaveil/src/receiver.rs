@@ -196,7 +196,7 @@ impl<S: Store> Receiver<S> {
     ///
     /// # Errors
     ///
-    /// Refusals 1 to 16.
+    /// Refusals 1 to 16 and 18.
     pub fn column(&mut self, datagram: &[u8]) -> Result<Taken, Refusal> {
         self.offer(face::cgv_column, datagram)
     }
@@ -205,7 +205,7 @@ impl<S: Store> Receiver<S> {
     ///
     /// # Errors
     ///
-    /// Refusals 1 to 16.
+    /// Refusals 1 to 16 and 18.
     pub fn row(&mut self, datagram: &[u8]) -> Result<Taken, Refusal> {
         self.offer(face::cgv_row, datagram)
     }

@@ -1,7 +1,7 @@
 use core::fmt;
 
-/// Why a call was refused: the first reason that applies, in this order; but 21 of a capture file and 22 of a move come before 4. Its
-/// number is that of documents 01 and 02.
+/// Why a call was refused: the first reason that applies, in this order; but 18 comes before 16, and 21 of a capture file and 22 of a move
+/// come before 4. Its number is that of documents 01 and 02.
 #[derive(Clone, Copy, Debug, PartialEq, Eq, Hash)]
 #[repr(u32)]
 pub enum Refusal {
@@ -39,6 +39,8 @@ pub enum Refusal {
     Full = 16,
     /// Reading a missing packet, or writing parity over one.
     Missing = 17,
+    /// Parity other than its group gives, all of which is present: it is wrong, or a packet of its group is.
+    Contradicts = 18,
     /// Not a proper capture file, or not the content of one.
     BadCapture = 21,
     /// A window moved by 0 positions, or by more than it has.
@@ -46,7 +48,7 @@ pub enum Refusal {
 }
 
 impl Refusal {
-    /// The number of the refusal: 1 to 17, 21 or 22.
+    /// The number of the refusal: 1 to 18, 21 or 22.
     #[must_use]
     pub fn number(self) -> u32 {
         self as u32
@@ -73,6 +75,7 @@ impl Refusal {
             15 => Refusal::Differs,
             16 => Refusal::Full,
             17 => Refusal::Missing,
+            18 => Refusal::Contradicts,
             21 => Refusal::BadCapture,
             _ => Refusal::BadMove, // 22, the last
         })
@@ -99,6 +102,7 @@ impl fmt::Display for Refusal {
             Refusal::Differs => "already held, and different",
             Refusal::Full => "no record is free",
             Refusal::Missing => "packet missing",
+            Refusal::Contradicts => "parity contradicts its group, all of which is present",
             Refusal::BadCapture => "not a proper capture file",
             Refusal::BadMove => "window moved by no position, or by more than it has",
         })

@@ -95,7 +95,7 @@ fn of_mixed_lengths() {
     assert!(r.packets().map(|packet| packet.payload).eq(sent));
 }
 
-/// Parity that gives a packet which cannot be right is counted, and nothing is told.
+/// Parity that gives a packet which cannot be right, or contradicts its group, is counted, and nothing is told.
 #[test]
 fn spoilt() {
     let mut r = Receiver::open(SET_UP).unwrap();
@@ -112,7 +112,13 @@ fn spoilt() {
     assert_eq!((r.in_hand(), desk.counters().spoilt), (1, 1));
     assert_eq!(desk.media(&mut r, &media(at(4), byte_of(at(4)))), Ok(Taken { rebuilt: 0, spoilt: 1 }));
     assert_eq!((r.in_hand(), numbers(&mut desk, &r), r.missing().collect::<Vec<_>>()), (0, vec![], vec![at(0)]));
-    assert_eq!(desk.counters().to_string(), "received 15, recovered 0, late 0, missing 1, given up 0, alarms 0, spoilt 2, refused 0");
+    let mut row = parity(true, at(4));
+    assert_eq!(desk.row(&mut r, &row), taken(0));
+    row[215] ^= 1;
+    assert_eq!(desk.row(&mut r, &row), Err(Refusal::Contradicts));
+    assert_eq!(desk.counters().refused_with(Refusal::Contradicts), 1);
+    let line = "received 15, recovered 0, late 0, missing 1, given up 0, alarms 0, spoilt 2, refused 1 (no. 18: 1)";
+    assert_eq!(desk.counters().to_string(), line);
     let mut sum = *desk.counters();
     sum += sum;
     assert_eq!(sum.spoilt, 4);

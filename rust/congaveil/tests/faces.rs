@@ -1,4 +1,4 @@
-//! Every number of document 01 and 22 is reached through the safe face; a refusal changes nothing; nothing is touched past the need.
+//! Every number of document 01, 18 and 22 is reached through the safe face; a refusal changes nothing; nothing is touched past the need.
 use congaveil::capture::Port;
 use congaveil::{move_room, Lent, Outer, Receiver, Record, Refusal, SetUp, Taken, Window, MEDIA_HEADER, PARITY_HEADER};
 
@@ -99,6 +99,35 @@ fn parity_offers() {
     assert_eq!(r.row(&parity(true, BASE)), Err(Refusal::Repeat));
     assert_eq!(r.row(&with(parity(true, BASE), 20, 0xff)), Err(Refusal::Differs));
     assert_eq!(r.column(&column), Err(Refusal::Full));
+}
+
+/// Parity over a whole group is the one that the group gives, but for the fields that nobody looks at; then a lie that rebuilds, after which
+/// true parity and the true packet are refused.
+#[test]
+fn parity_that_lies() {
+    let mut r = open(SET_UP);
+    let at = |i: u16| BASE.wrapping_add(i);
+    for i in 1..16 {
+        assert_eq!(r.media(&media(at(i), 1)), taken(0));
+    }
+    let before = format!("{r:?}");
+    for (row, start) in [(false, at(1)), (true, at(3)), (true, at(12))] {
+        let good = parity(row, start);
+        let turned = |i: usize| with(good.clone(), i, good[i] ^ 1);
+        let mut offer = |g: &[u8]| if row { r.row(g) } else { r.column(g) };
+        for i in [14, 15, 20, 23, PARITY_HEADER, PARITY_HEADER + P / 2, PARITY_HEADER + P - 1] {
+            assert_eq!(offer(&turned(i)), Err(Refusal::Contradicts), "byte {i}");
+        }
+        for i in [2, 3, 4, 7, 8, 11] {
+            assert_eq!(offer(&turned(i)), taken(0), "byte {i}");
+        }
+        assert_eq!(offer(&good), taken(0));
+    }
+    assert_eq!(format!("{r:?}"), before);
+    let good = parity(false, at(0));
+    assert_eq!(r.column(&with(good.clone(), PARITY_HEADER, good[PARITY_HEADER] ^ 1)), taken(1));
+    assert_eq!(r.row(&parity(true, at(0))), Err(Refusal::Contradicts));
+    assert_eq!(r.media(&media(at(0), 1)), Err(Refusal::Differs));
 }
 
 #[test]
@@ -354,6 +383,7 @@ fn words() {
         Differs,
         Full,
         Missing,
+        Contradicts,
     ];
     for (i, refusal) in all.iter().enumerate() {
         assert_eq!(refusal.number(), i as u32 + 1);
@@ -364,4 +394,5 @@ fn words() {
     assert_eq!(BadMove.number() as usize + 1, congaveil::NUMBERS);
     assert_eq!(BadLength.to_string(), "payload not whole transport packets up to the window's size");
     assert_eq!(BadRecovery.to_string(), "payload type recovery not the profile's");
+    assert_eq!(Contradicts.to_string(), "parity contradicts its group, all of which is present");
 }

@@ -1,5 +1,6 @@
 //! Traffic of real senders with losses of all kinds: nothing present may differ from what was sent, nothing may be missing
-//! that the received parity allows, nothing is spoilt, and the parity that the library writes is the sender's.
+//! that the received parity allows, nothing is spoilt, the parity that the library writes is the sender's, and the sender's is taken
+//! where its whole group is present.
 
 use crate::capture;
 use crate::face::Receiver;
@@ -209,27 +210,8 @@ impl Capture {
             }
         }
         self.compare(rng, &mut receiver, start, &present)?;
-        for group in groups.iter().filter(|group| inside(&group.members)) {
-            let datagram = group.datagram;
-            let snbase = u16::from_be_bytes([datagram[12], datagram[13]]);
-            let stamp = Stamp { sequence: rng.next() as u16, timestamp: rng.next() as u32, ssrc: rng.next() as u32 };
-            let written = receiver.write(group.port, snbase, stamp);
-            if group.members.iter().any(|&i| !present[i as usize]) {
-                if written != Err(17) {
-                    return Err(format!("parity over a missing packet, SNBase {snbase}: {written:?}"));
-                }
-                continue;
-            }
-            // All but sequence number, timestamp and SSRC is the sender's; these three are the caller's.
-            let mut wanted = datagram.to_vec();
-            wanted[2..4].copy_from_slice(&stamp.sequence.to_be_bytes());
-            wanted[4..8].copy_from_slice(&stamp.timestamp.to_be_bytes());
-            wanted[8..12].copy_from_slice(&stamp.ssrc.to_be_bytes());
-            if written.as_ref() != Ok(&wanted) {
-                return Err(format!("port {}, SNBase {snbase}: written {written:?}, captured {datagram:?}", group.port));
-            }
-            tally.compared += 1;
-        }
+        groups.retain(|group| inside(&group.members));
+        tally.compared += compare_parity(rng, &mut receiver, &groups, &present)?;
         let in_the_end = present.iter().filter(|&&is| is).count();
         tally.windows += 1;
         tally.lost += (n - received) as u64;
@@ -258,6 +240,38 @@ impl Capture {
         }
         Ok(())
     }
+}
+
+/// The parity of groups in the window, written and taken. Answers how many were compared.
+fn compare_parity(rng: &mut Rng, receiver: &mut Receiver, groups: &[Group], present: &[bool]) -> Result<u64, String> {
+    let mut compared = 0;
+    for group in groups {
+        let datagram = group.datagram;
+        let snbase = u16::from_be_bytes([datagram[12], datagram[13]]);
+        let stamp = Stamp { sequence: rng.next() as u16, timestamp: rng.next() as u32, ssrc: rng.next() as u32 };
+        let written = receiver.write(group.port, snbase, stamp);
+        if group.members.iter().any(|&i| !present[i as usize]) {
+            if written != Err(17) {
+                return Err(format!("parity over a missing packet, SNBase {snbase}: {written:?}"));
+            }
+            continue;
+        }
+        // All but sequence number, timestamp and SSRC is the sender's; these three are the caller's.
+        let mut wanted = datagram.to_vec();
+        wanted[2..4].copy_from_slice(&stamp.sequence.to_be_bytes());
+        wanted[4..8].copy_from_slice(&stamp.timestamp.to_be_bytes());
+        wanted[8..12].copy_from_slice(&stamp.ssrc.to_be_bytes());
+        if written.as_ref() != Ok(&wanted) {
+            return Err(format!("port {}, SNBase {snbase}: written {written:?}, captured {datagram:?}", group.port));
+        }
+        // Offered once more, it agrees with what is held.
+        let (before, answer) = (receiver.window, receiver.offer(group.port, datagram));
+        if (answer.number, answer.count, answer.spoilt, answer.window) != (0, 0, 0, before) {
+            return Err(format!("port {}, SNBase {snbase}, its whole group present: {answer:?}, before it {before:?}", group.port));
+        }
+        compared += 1;
+    }
+    Ok(compared)
 }
 
 #[cfg(test)]

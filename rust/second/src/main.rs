@@ -1,5 +1,5 @@
-//! A second program for document 01 and requests 1, 2, 4 and 5 of document 02, run against the library: random traffic, brute
-//! force on small windows, real captures, capture files, senders, windows that move.
+//! A second program for document 01 and requests 1, 2, 4, 5 and 6 of document 02, run against the library: random traffic, brute
+//! force on small windows, real captures, capture files, senders, windows that move, parity that lies.
 //!
 //! `second` runs a fixed seeded set, `second --seed S` takes one seed again, `second --seconds N [--seed S]` is the long run, which
 //! takes the seeds from S onward. `second --replay PROGRAM [--seed S]` runs the program that replays a capture file, on files of
@@ -10,6 +10,8 @@ mod capture;
 mod captures;
 mod face;
 mod files;
+mod flipped;
+mod lies;
 mod model;
 mod moving;
 mod pair;
@@ -35,6 +37,7 @@ const LISTS: u64 = 20_000;
 const PATTERNS: u64 = 250;
 const MOVING_LISTS: u64 = 4_000;
 const PASSES: u64 = 100;
+const FLIPS: u64 = 12;
 /// After so many windows comes the content of a capture file, and after so many a sender. In turns a wrong copy of any is found early.
 const WINDOWS_A_CONTENT: u64 = 16;
 const WINDOWS_A_SENDER: u64 = 50;
@@ -43,13 +46,15 @@ const WINDOWS_A_LONG_SENDER: u64 = 6_600;
 /// And a window that moves until its numbers have wrapped two to four times.
 const WINDOWS_A_LONG_MOVE: u64 = 10_000;
 
-/// Each number, each kind of spoilt rebuild and of move, and each limit and breach of a capture file must be met so often in the run
-/// without arguments.
+/// Each number, each kind of spoilt rebuild, of move and of lie, and each limit and breach of a capture file must be met so often in the
+/// run without arguments.
 const LEAST: u64 = 100;
+/// And what can come of a bit that is changed in a captured packet so often.
+const LEAST_FLIPPED: u64 = 10;
 
 /// The numbers that a call on a window can answer.
 fn numbers() -> impl Iterator<Item = usize> {
-    (0..=17).chain([22])
+    (0..=18).chain([22])
 }
 
 /// How often each was met, in one line.
@@ -65,6 +70,7 @@ struct Run {
     far: u64,
     captures: captures::Tally,
     passing: passing::Tally,
+    flipped: flipped::Tally,
     /// The captures, or why they cannot be read: that shows when their turn comes, after the reader of capture files was compared.
     files: Result<Vec<captures::Capture>, String>,
     contents: files::Tally,
@@ -83,6 +89,7 @@ impl Run {
             far: 0,
             captures,
             passing: Default::default(),
+            flipped: Default::default(),
             files,
             contents: Default::default(),
             sending: Default::default(),
@@ -122,6 +129,13 @@ impl Run {
         Ok(())
     }
 
+    fn flip(&mut self, seed: u64) -> Result<(), String> {
+        for file in self.files.as_ref().map_err(String::clone)? {
+            flipped::run(file, seed, &mut self.flipped).map_err(|text| format!("DIFFERENCE in a flipped bit, seed {seed}: {text}"))?;
+        }
+        Ok(())
+    }
+
     fn pattern(&mut self, seed: u64) -> Result<(), String> {
         for file in self.files.as_ref().map_err(String::clone)? {
             file.run(seed, &mut self.captures).map_err(|text| format!("DIFFERENCE in a capture, seed {seed}: {text}"))?;
@@ -149,6 +163,37 @@ impl Run {
     }
 
     fn print(&self) {
+        self.print_traffic();
+        let s = &self.stopping;
+        println!(
+            "small windows: {} lists of {} offers, {} packets lost, {} rebuilt, {} lists with a part left missing, {}",
+            s.lists,
+            s.offers,
+            s.lost,
+            s.rebuilt,
+            s.partly,
+            format_args!("{} parity packets over whole groups; 0 wrong", s.compared)
+        );
+        let c = &self.captures;
+        println!(
+            "captures: {} captures, {} patterns in {} windows, {} packets lost, {} rebuilt, {} of them short, {} parity packets compared, {}",
+            c.captures,
+            c.patterns,
+            c.windows,
+            c.lost,
+            c.rebuilt,
+            c.short,
+            c.compared,
+            format_args!("{} offered to a full table; 0 wrong", c.full)
+        );
+        let f = &self.flipped;
+        println!("  a bit changed: {} parity packets, {} bits, answered {}; 0 differences", f.packets, f.flips, times(&f.met()));
+        self.print_moves();
+        self.print_files();
+        self.print_senders();
+    }
+
+    fn print_traffic(&self) {
         let t = &self.traffic;
         let numbers: Vec<(usize, u64)> = numbers().map(|number| (number, t.numbers[number])).collect();
         println!(
@@ -164,26 +209,7 @@ impl Run {
             "  spoilt: {} parity packets; in {} offers of the packet itself, {} with parity in hand, {} of several, {} that also rebuilt",
             x.all, x.offered, x.in_hand, x.several, x.passed
         );
-        let s = &self.stopping;
-        println!(
-            "small windows: {} lists of {} offers, {} packets lost, {} rebuilt, {} lists with a part left missing; 0 wrong",
-            s.lists, s.offers, s.lost, s.rebuilt, s.partly
-        );
-        let c = &self.captures;
-        println!(
-            "captures: {} captures, {} patterns in {} windows, {} packets lost, {} rebuilt, {} of them short, {} parity packets compared, {}",
-            c.captures,
-            c.patterns,
-            c.windows,
-            c.lost,
-            c.rebuilt,
-            c.short,
-            c.compared,
-            format_args!("{} offered to a full table; 0 wrong", c.full)
-        );
-        self.print_moves();
-        self.print_files();
-        self.print_senders();
+        println!("  lies: {} refused with 18; {}", t.lies.refused, times(&self.kinds_of_lies()));
     }
 
     fn print_moves(&self) {
@@ -202,7 +228,10 @@ impl Run {
             s.lost,
             s.rebuilt,
             s.partly,
-            format_args!("{} with parity in hand, which {} needed; {} packets written; 0 wrong", s.in_hand, s.by_it, s.written)
+            format_args!(
+                "{} with parity in hand, which {} needed, {} parity packets over whole groups; {} packets written; 0 wrong",
+                s.in_hand, s.by_it, s.compared, s.written
+            )
         );
         let c = &self.passing;
         println!(
@@ -215,10 +244,14 @@ impl Run {
             c.rebuilt,
             c.given_up,
             format_args!(
-                "{} passes without loss in the end; {} offers behind the base, {} to a full table; 0 wrong",
-                c.whole, c.late, c.full
+                "{} passes without loss in the end; {} offers behind the base, {} to a full table, {} of parity over whole groups; 0 wrong",
+                c.whole, c.late, c.full, c.compared
             )
         );
+    }
+
+    fn kinds_of_lies(&self) -> Vec<(&'static str, u64)> {
+        lies::KINDS.iter().map(|&kind| (kind, self.traffic.lies.kinds.get(kind).copied().unwrap_or(0))).collect()
     }
 
     fn kinds_of_moves(&self) -> Vec<(&'static str, u64)> {
@@ -287,6 +320,9 @@ impl Run {
         for seed in 1..=PASSES {
             self.pass(seed)?;
         }
+        for seed in 1..=FLIPS {
+            self.flip(seed)?;
+        }
         self.print();
         self.enough()
     }
@@ -305,8 +341,17 @@ impl Run {
         if let Some((name, _)) = self.kinds_of_moves().into_iter().find(|&(_, times)| times < LEAST) {
             return Err(format!("of moves, {name} was met fewer than {LEAST} times"));
         }
+        if let Some((name, _)) = self.kinds_of_lies().into_iter().find(|&(_, times)| times < LEAST) {
+            return Err(format!("of parity that lies, {name} was met fewer than {LEAST} times"));
+        }
+        if let Some((name, _)) = self.flipped.met().into_iter().find(|&(_, times)| times < LEAST_FLIPPED) {
+            return Err(format!("of changed bits, {name} was met fewer than {LEAST_FLIPPED} times"));
+        }
         let (s, c) = (&self.moving, &self.passing);
-        if [s.by_it, s.partly, c.rebuilt, c.given_up, c.whole, c.late, c.full].iter().any(|&times| times < LEAST) {
+        if [s.by_it, s.partly, s.compared, c.rebuilt, c.given_up, c.whole, c.late, c.full, c.compared, self.stopping.compared]
+            .iter()
+            .any(|&times| times < LEAST)
+        {
             return Err(format!("a kind of list between moves, or of passing capture, was met fewer than {LEAST} times"));
         }
         let x = self.traffic.spoilt;
@@ -332,6 +377,7 @@ impl Run {
             self.long_move(seed),
             self.moving_list(seed),
             self.pass(seed),
+            self.flip(seed),
             self.resend(),
         ];
         let faults: Vec<String> = results.into_iter().filter_map(Result::err).collect();
@@ -361,6 +407,9 @@ impl Run {
             }
             self.pattern(first.wrapping_add(round))?;
             self.pass(first.wrapping_add(round))?;
+            if round % 8 == 0 {
+                self.flip(first.wrapping_add(round / 8))?;
+            }
             for i in 0..8 {
                 self.sender(first.wrapping_add(round * 8 + i))?;
             }

@@ -1,5 +1,5 @@
-//! The second program: document 01 and request 1 of document 02 read once more and written down in the plainest way. Request 5 has
-//! a file of its own, moving.rs.
+//! The second program: document 01 and requests 1 and 6 of document 02 read once more and written down in the plainest way. Request 5
+//! has a file of its own, moving.rs.
 //!
 //! Nothing here is clever. Every call looks at everything afresh, all arithmetic is in 64 bits, and a group is a list of
 //! numbers. Judging only reads the store; a call writes to it after the last refusal has been ruled out.
@@ -340,9 +340,24 @@ fn judge_parity(w: &Window, stream: u8, datagram: &[u8], s: &Store) -> Result<Ve
             return Err(if same { 14 } else { 15 });
         }
     }
+    no_if(missing(s, &places) == Missing::None && lies(w, &places, datagram, s), 18)?;
     let free = s.records[..w.k as usize].iter().any(|record| record.in_use == 0);
     no_if(missing(s, &places) == Missing::More && !free, 16)?;
     Ok(places)
+}
+
+/// Whether a parity packet whose whole group is present differs from the definition in a recovery field or in the length of its
+/// payload (02, request 6). PT recovery is not asked again: 11 let nothing else pass.
+fn lies(w: &Window, places: &[usize], datagram: &[u8], s: &Store) -> bool {
+    let members: Vec<&[u8]> = places.iter().map(|&i| payload(s.media, w, i, s.lengths[i])).collect();
+    let longest = members.iter().map(|member| member.len()).max().unwrap_or(0);
+    let timestamp = places.iter().fold(0, |sum, &i| sum ^ s.timestamps[i]);
+    let length = places.iter().fold(0, |sum, &i| sum ^ s.lengths[i]);
+    let byte = |j: usize| members.iter().fold(0u8, |sum, member| sum ^ member.get(j).unwrap_or(&0));
+    four(datagram, 20) != timestamp
+        || two(datagram, 14) != length
+        || datagram.len() != 28 + longest
+        || (0..longest).any(|j| datagram[28 + j] != byte(j))
 }
 
 // ---- rebuilding ----
@@ -833,5 +848,180 @@ mod tests {
             held.records[0].length_recovery = bad;
             assert_eq!(number(&mut held), 0);
         }
+    }
+
+    /// The packets of a window at the wrap, of one to four units each, with their window. Position 9 has old bytes past its length.
+    fn whole(k: u64) -> (Window, Held, Vec<Vec<u8>>) {
+        let sent: Vec<Vec<u8>> =
+            (0..20u16).map(|i| packet(65_530u16.wrapping_add(i), 1001 * u32::from(i) + 5, 188 * (1 + usize::from(i * i) % 3))).collect();
+        let mut held = Held::new(20, k as usize, 752);
+        let mut w = open(asked(65_530, 4, 4, 752, 20, k), &mut held.lend()).window;
+        for packet in &sent {
+            w = media(w, packet, &mut held.lend()).window;
+        }
+        assert_eq!((w.present, held.lengths[9]), (20, 188));
+        held.media[9 * 752 + 188..10 * 752].fill(0x5C);
+        (w, held, sent)
+    }
+
+    /// The exclusive-or of what was sent at these positions, put together by hand.
+    fn true_parity(sent: &[Vec<u8>], stream: u8, first: usize) -> Vec<u8> {
+        let step = if stream == COLUMN { 4 } else { 1 };
+        let members: Vec<&Vec<u8>> = (0..4).map(|j| &sent[first + j * step]).collect();
+        let longest = members.iter().map(|member| member.len()).max().unwrap() - 12;
+        let mut bytes = vec![0x80, 96, 1, 2, 3, 4, 5, 6, 7, 8, 9, 10];
+        bytes.extend(&members[0][2..4]);
+        bytes.extend([0, 0, 0x80, 0, 0, 0, 0, 0, 0, 0, stream << 6, step as u8, 4, 0]);
+        bytes.resize(28 + longest, 0);
+        for member in members {
+            let length = (member.len() as u16 - 12).to_be_bytes();
+            xor_into(&mut bytes[14..16], &length);
+            xor_into(&mut bytes[20..24], &member[4..8]);
+            xor_into(&mut bytes[28..], &member[12..]);
+        }
+        bytes
+    }
+
+    /// Every group of the window, as (stream, first position).
+    fn all_groups() -> impl Iterator<Item = (u8, usize)> {
+        (0..8).map(|first| (COLUMN, first)).chain((0..17).map(|first| (ROW, first)))
+    }
+
+    /// Offers a packet that may alter nothing, and answers the number.
+    fn unmoved(w: Window, stream: u8, datagram: &[u8], held: &mut Held) -> u32 {
+        let (marks, timestamps, lengths) = (held.marks.clone(), held.timestamps.clone(), held.lengths.clone());
+        let (bytes, parity_bytes, records) = (held.media.clone(), held.parity.clone(), held.records.clone());
+        let answer = parity(w, stream, datagram, &mut held.lend());
+        assert_eq!((answer.count, answer.spoilt, answer.window), (0, 0, w));
+        assert_eq!((&held.marks, &held.timestamps, &held.lengths), (&marks, &timestamps, &lengths));
+        assert!(held.media == bytes && held.parity == parity_bytes && held.records == records);
+        answer.number
+    }
+
+    /// On a group that is wholly present a true packet is taken and one with a bit changed is not, whatever field it is in.
+    #[test]
+    fn a_lie_in_each_field() {
+        let (w, mut held, sent) = whole(3);
+        for (stream, first) in all_groups() {
+            let good = true_parity(&sent, stream, first);
+            assert_eq!(unmoved(w, stream, &good, &mut held), 0);
+            let last = good.len() - 1;
+            for (from, to, number) in [(14, 16, 18), (20, 24, 18), (28, 29, 18), (last, last + 1, 18), (16, 17, 11), (2, 12, 0)] {
+                for bit in 8 * from..8 * to {
+                    let mut lie = good.clone();
+                    lie[bit / 8] ^= 1 << (bit % 8);
+                    // The top bit of byte 16 is E.
+                    let number = if bit == 16 * 8 + 7 { 10 } else { number };
+                    assert_eq!(unmoved(w, stream, &lie, &mut held), number, "bit {bit} of the group at {first}");
+                }
+            }
+        }
+    }
+
+    /// The payload is as long as the longest of the group: neither longer by zeros, nor shorter by them.
+    #[test]
+    fn a_lie_of_the_length() {
+        let (w, mut held, sent) = whole(3);
+        for (stream, first) in all_groups() {
+            let mut longer = true_parity(&sent, stream, first);
+            longer.extend([0; 188]);
+            assert_eq!(unmoved(w, stream, &longer, &mut held), 18);
+            longer[28..].fill(0);
+            assert_eq!(unmoved(w, stream, &longer, &mut held), 18);
+        }
+        // Two that are the longest end in the same unit, so that the cut bytes are zeros.
+        let mut sent: Vec<Vec<u8>> = sent;
+        sent[3].truncate(200);
+        sent[3].resize(12 + 752, 0x42);
+        sent[2].resize(12 + 752, 0x42);
+        let mut held = Held::new(20, 3, 752);
+        let mut w = open(w, &mut held.lend()).window;
+        for packet in &sent {
+            w = media(w, packet, &mut held.lend()).window;
+        }
+        let good = true_parity(&sent, ROW, 0);
+        assert!(good.len() == 28 + 752 && good[28 + 564..].iter().all(|&byte| byte == 0));
+        assert_eq!(unmoved(w, ROW, &good, &mut held), 0);
+        assert_eq!(unmoved(w, ROW, &good[..28 + 564], &mut held), 18);
+        // Not in units is 9, whatever else.
+        assert_eq!(unmoved(w, ROW, &good[..28 + 563], &mut held), 9);
+    }
+
+    /// With one missing nothing is compared: it is rebuilt as the lie has it, and then a true packet over it meets 18, the lie is taken,
+    /// and the packet itself meets 15.
+    #[test]
+    fn after_one_lie() {
+        let (_, _, sent) = whole(3);
+        let mut held = Held::new(20, 3, 752);
+        let mut w = open(asked(65_530, 4, 4, 752, 20, 3), &mut held.lend()).window;
+        for packet in sent.iter().take(6).chain(&sent[7..]) {
+            w = media(w, packet, &mut held.lend()).window;
+        }
+        let mut lie = true_parity(&sent, ROW, 5);
+        lie[28] ^= 0x10;
+        let answer = row(w, &lie, &mut held.lend());
+        assert_eq!((answer.number, answer.count, answer.spoilt, answer.window.present), (0, 1, 0, 20));
+        let w = answer.window;
+        assert_eq!(held.media[6 * 752], sent[6][12] ^ 0x10);
+        for (stream, first) in [(COLUMN, 2), (COLUMN, 6), (ROW, 3), (ROW, 4), (ROW, 5), (ROW, 6)] {
+            assert_eq!(unmoved(w, stream, &true_parity(&sent, stream, first), &mut held), 18);
+        }
+        assert_eq!(unmoved(w, ROW, &true_parity(&sent, ROW, 7), &mut held), 0);
+        assert_eq!(unmoved(w, ROW, &lie, &mut held), 0);
+        assert_eq!(media(w, &sent[6], &mut held.lend()).number, 15);
+    }
+
+    /// The order of the refusals: 13 and those before it come first, and a full table is not asked where the group is whole.
+    #[test]
+    fn lies_and_a_full_table() {
+        let (_, _, sent) = whole(1);
+        let mut held = Held::new(20, 1, 752);
+        let mut w = open(asked(65_530, 4, 4, 752, 20, 1), &mut held.lend()).window;
+        for packet in &sent[..14] {
+            w = media(w, packet, &mut held.lend()).window;
+        }
+        // Positions 14 to 19 are missing. The row at 13 lies and is held unread.
+        let mut lie = true_parity(&sent, ROW, 13);
+        lie[28] ^= 1;
+        w = row(w, &lie, &mut held.lend()).window;
+        assert_eq!((w.present, w.in_use), (14, 1));
+        assert_eq!(unmoved(w, ROW, &lie, &mut held), 14);
+        assert_eq!(unmoved(w, ROW, &true_parity(&sent, ROW, 13), &mut held), 15);
+        assert_eq!(unmoved(w, ROW, &true_parity(&sent, ROW, 14), &mut held), 16);
+        let mut whole_and_lying = true_parity(&sent, ROW, 10);
+        assert_eq!(unmoved(w, ROW, &whole_and_lying, &mut held), 0);
+        whole_and_lying[20] ^= 1;
+        assert_eq!(unmoved(w, ROW, &whole_and_lying, &mut held), 18);
+        // Its SNBase before the base, and NA of another profile.
+        whole_and_lying[12..14].copy_from_slice(&65_529u16.to_be_bytes());
+        assert_eq!(unmoved(w, ROW, &whole_and_lying, &mut held), 13);
+        whole_and_lying[26] = 6;
+        assert_eq!(unmoved(w, ROW, &whole_and_lying, &mut held), 12);
+        // One missing: rebuilt unread, also with all records in use.
+        let mut one = true_parity(&sent, ROW, 11);
+        one[20] ^= 1;
+        let answer = row(w, &one, &mut held.lend());
+        assert_eq!((answer.number, answer.count, answer.window.in_use), (0, 1, 1));
+    }
+
+    /// Two rows in hand, of which the second lies. The first rebuilds what both lack, and the second is released unread.
+    #[test]
+    fn parity_in_hand_is_not_compared() {
+        let (w, mut held, sent) = whole(2);
+        let mut w = open(w, &mut held.lend()).window;
+        for i in (0..20).filter(|i| ![3, 4].contains(i)) {
+            w = media(w, &sent[i], &mut held.lend()).window;
+        }
+        let mut lie = true_parity(&sent, ROW, 2);
+        lie[28] ^= 1;
+        for datagram in [&true_parity(&sent, ROW, 1), &lie] {
+            w = row(w, datagram, &mut held.lend()).window;
+        }
+        assert_eq!((w.present, w.in_use), (18, 2));
+        let answer = media(w, &sent[3], &mut held.lend());
+        assert_eq!((answer.number, answer.count, answer.spoilt), (0, 1, 0));
+        assert_eq!((answer.window.present, answer.window.in_use, &held.parity), (20, 0, &vec![0; 2 * 752]));
+        assert_eq!(unmoved(answer.window, ROW, &lie, &mut held), 18);
+        assert_eq!(unmoved(answer.window, ROW, &true_parity(&sent, ROW, 2), &mut held), 0);
     }
 }

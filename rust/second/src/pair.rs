@@ -1,7 +1,8 @@
 //! Both programs side by side: the same call with the same lent bytes goes to each, and all that they give back is compared.
 
 use crate::face::{self, RawRecord, RECORD};
-use crate::model::{self, Answer, Record, Stamp, Window};
+use crate::lies::{Lies, Whole};
+use crate::model::{self, Answer, Record, Stamp, Window, COLUMN, ROW};
 use crate::moving;
 use crate::rng::Rng;
 use std::collections::BTreeMap;
@@ -39,12 +40,20 @@ pub struct Sizes {
 pub struct Tally {
     pub windows: u64,
     pub calls: u64,
-    /// By the number answered; 18 to 21 are no number of these calls.
+    /// By the number answered; 19 to 21 are no number of these calls.
     pub numbers: [u64; 23],
     pub rebuilt: u64,
     pub spoilt: Spoilt,
     pub moves: Moves,
+    pub lies: Lies,
     pub profiles: std::collections::BTreeSet<(u64, u64)>,
+}
+
+impl Tally {
+    fn count_offer(&mut self, media: bool, before: Window, answer: Answer) {
+        self.rebuilt += answer.count;
+        self.spoilt.count(media, before, answer);
+    }
 }
 
 /// How spoilt rebuilds were met.
@@ -166,6 +175,7 @@ impl Moves {
 }
 
 /// One store for each program. The parts are longer than what is lent, so that bytes past a lent part are compared too.
+#[derive(Clone)]
 pub struct Pair {
     media: [Vec<u8>; 2],
     timestamps: [Vec<u32>; 2],
@@ -248,6 +258,13 @@ impl Pair {
         &self.parity[0]
     }
 
+    /// Whether both stores are still what they were.
+    pub fn untouched(&self, before: &Pair) -> bool {
+        (&self.media, &self.timestamps, &self.lengths) == (&before.media, &before.timestamps, &before.lengths)
+            && (&self.marks, &self.parity, &self.records) == (&before.marks, &before.parity, &before.records)
+            && self.raw == before.raw
+    }
+
     pub fn set_mark(&mut self, i: usize, to: u8) {
         self.marks.iter_mut().for_each(|part| part[i] = to);
     }
@@ -290,11 +307,12 @@ impl Pair {
         tally.calls += 1;
         if ours == theirs && (ours.number as usize) < tally.numbers.len() {
             tally.numbers[ours.number as usize] += 1;
-            if let Some(by) = by {
-                tally.moves.count(w, by, lent, old_bytes, ours);
-            } else if !writes_out {
-                tally.rebuilt += ours.count;
-                tally.spoilt.count(matches!(call, Call::Media(_)), w, ours);
+            match call {
+                Call::Move(by) => tally.moves.count(w, *by, lent, old_bytes, ours),
+                Call::Media(_) | Call::Open(_) => tally.count_offer(true, w, ours),
+                Call::Column(datagram) => self.count_parity(w, COLUMN, datagram, ours, tally),
+                Call::Row(datagram) => self.count_parity(w, ROW, datagram, ours, tally),
+                _ => {}
             }
         }
         let mut faults = Vec::new();
@@ -333,6 +351,41 @@ impl Pair {
             text += &format!("  {fault}\n");
         }
         Err(text)
+    }
+
+    /// Counts an offer of parity, and one that altered nothing again if its whole group is present.
+    fn count_parity(&mut self, w: Window, stream: u8, datagram: &[u8], answer: Answer, tally: &mut Tally) {
+        tally.count_offer(false, w, answer);
+        if !matches!(answer.number, 0 | 11 | 18) || (answer.count, answer.spoilt, answer.window) != (0, 0, w) {
+            return;
+        }
+        let snbase = model::two(datagram, 12);
+        if let Some(defined) = self.defined(w, stream, snbase, Stamp { sequence: 0, timestamp: 0, ssrc: 0 }) {
+            let places: Vec<usize> =
+                model::group(&w, stream, snbase).into_iter().map(|number| model::position(&w, number) as usize).collect();
+            let length = |i: usize| usize::from(self.lengths[0][i]);
+            let past = |i: usize| &self.media[0][i * w.p as usize..(i + 1) * w.p as usize][length(i)..];
+            let mixed = places.iter().any(|&i| length(i) != length(places[0]));
+            let old_bytes = places.iter().any(|&i| past(i).iter().any(|&byte| byte != 0));
+            tally.lies.count(w, stream, datagram, &Whole { defined, mixed, old_bytes }, answer);
+        }
+    }
+
+    /// The parity packet of a group that is wholly present, as the store has it.
+    pub fn defined(&mut self, w: Window, stream: u8, snbase: u16, stamp: Stamp) -> Option<Vec<u8>> {
+        let mut out = vec![0; 28 + w.p.min(1428) as usize];
+        let s = model::Store {
+            media: &mut self.media[0],
+            timestamps: &mut self.timestamps[0],
+            lengths: &mut self.lengths[0],
+            marks: &mut self.marks[0],
+            parity: &mut self.parity[0],
+            records: &mut self.records,
+        };
+        let write = if stream == COLUMN { model::write_column } else { model::write_row };
+        let answer = write(w, snbase, stamp, &s, &mut out);
+        out.truncate(answer.count as usize);
+        Some(out).filter(|_| answer.number == 0)
     }
 
     /// Fills both outputs of a move with the same noise.

@@ -22,6 +22,8 @@ pub struct Tally {
     /// Offers behind the base, and of parity to a full table.
     pub late: u64,
     pub full: u64,
+    /// Parity packets that found their whole group present, and were compared with it.
+    pub compared: u64,
 }
 
 /// The window on its way. Packets are named by their distance from the first one of the capture.
@@ -103,6 +105,7 @@ impl Pass<'_> {
             _ => 0,
         };
         let full = port != 1 && answer.number == 16 && answer.window.in_use == answer.window.k;
+        tally.compared += u64::from(port != 1 && !behind && self.missing(&members).is_empty());
         let mut count = 0;
         if port == 1 && !behind {
             self.arrived[members[0]] = true;

@@ -90,7 +90,8 @@ impl Part<'_> {
         Receiver::open(Window { base, ssrc, l: v.l, d: v.d, p: v.p, n, k: 128, present: 0, in_use: 0 })
     }
 
-    /// All media in hand, the library writes every one of the parity packets. They are noted, by when and where they went out.
+    /// All media in hand, the library writes every one of the parity packets, and takes it. They are noted, by when and where they went
+    /// out.
     fn write(&self, rng: &mut Rng, all: &mut BTreeSet<(usize, u8)>) -> Result<(), String> {
         let mut receiver = self.open(rng)?;
         for (i, packet) in self.packets.iter().enumerate() {
@@ -105,6 +106,11 @@ impl Part<'_> {
             if written.as_ref() != Ok(&parity.bytes) {
                 let about = format!("port {}, sent with packet {}, SNBase {snbase}", parity.port, parity.with);
                 return Err(format!("  {about}: written {written:?}, sent {:?}\n", parity.bytes));
+            }
+            // What was sent agrees with what is held.
+            let (before, answer) = (receiver.window, receiver.offer(parity.port, &parity.bytes));
+            if (answer.number, answer.count, answer.spoilt, answer.window) != (0, 0, 0, before) {
+                return Err(format!("  port {}, SNBase {snbase}, its whole group present: {answer:?}\n", parity.port));
             }
             all.insert((parity.with, parity.port));
         }

@@ -23,6 +23,8 @@ struct Tally {
     files: u64,
     lines: u64,
     rebuilt: u64,
+    /// Lines of parity that was refused with 18.
+    lies: u64,
     breaches: u64,
     /// Files refused with 21 that are longer than the buffers of the program.
     long: u64,
@@ -53,6 +55,7 @@ impl Tally {
             (_, Ok(content)) => {
                 let counts = text.lines().filter_map(|line| line.split_once(' ')?.1.parse::<u64>().ok());
                 self.rebuilt += counts.sum::<u64>();
+                self.lies += text.lines().filter(|line| *line == "18 0").count() as u64;
                 self.fit += u64::from(room(&content.asked, 1) > ROOM);
                 self.full += u64::from(content.ports.len() == ENTRIES);
                 self.longest += u64::from(content.lengths.contains(&(BODY as u16)));
@@ -63,10 +66,11 @@ impl Tally {
     fn print(&self) {
         let [one, two, three] = self.openings;
         println!(
-            "replays: {} files, {} lines, {} packets rebuilt, 21: {}, {} of them long, refused openings {}, too big: {}, {}",
+            "replays: {} files, {} lines, {} packets rebuilt, 18: {}, 21: {}, {} of them long, refused openings {}, too big: {}, {}",
             self.files,
             self.lines,
             self.rebuilt,
+            self.lies,
             self.breaches,
             self.long,
             format_args!("1: {one}, 2: {two}, 3: {three}"),
@@ -80,7 +84,7 @@ impl Tally {
 
     fn enough(&self) -> bool {
         let [one, two, three] = self.openings;
-        let all = [self.rebuilt, self.long, one, two, three, self.just_too_big, self.fit, self.full, self.longest];
+        let all = [self.rebuilt, self.lies, self.long, one, two, three, self.just_too_big, self.fit, self.full, self.longest];
         all.iter().all(|&times| times >= LEAST)
     }
 }
@@ -276,12 +280,12 @@ mod tests {
         let mut tally = Tally::default();
         let asked = Window { l: 4, d: 4, p: 1316, n: 23, k: 8, ..Window::default() };
         let file = |asked| capture::write(&Content { asked, ..Content::default() });
-        tally.count(&file(asked), "0 0\n0 3\npresent 5 of 23\n");
+        tally.count(&file(asked), "0 0\n0 3\n18 0\npresent 5 of 23\n");
         tally.count(&file(Window { k: 9, ..asked }), "too big\n");
         tally.count(&file(Window { k: 10, ..asked }), "too big\n");
         tally.count(&file(Window { k: 0, ..asked }), "3\n");
         tally.count(&[], "21\n");
-        assert_eq!((tally.files, tally.lines, tally.rebuilt, tally.fit), (5, 7, 3, 1));
+        assert_eq!((tally.files, tally.lines, tally.rebuilt, tally.lies, tally.fit), (5, 8, 3, 1, 1));
         assert_eq!((tally.too_big, tally.just_too_big, tally.openings, tally.breaches), (2, 1, [0, 0, 1], 1));
     }
 }

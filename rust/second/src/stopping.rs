@@ -1,6 +1,7 @@
 //! Brute force on small windows: what stays missing is exactly the largest set of packets, none received, of which no
-//! received parity covers exactly one. It is looked for among all subsets. Nothing is ever spoilt. Of a window that moves the same
-//! is judged between each two moves: what the last one left counts as received, with the parity still in hand.
+//! received parity covers exactly one. It is looked for among all subsets. Nothing is ever spoilt, and no packet is refused with 15 or
+//! 18. Of a window that moves the same is judged between each two moves: what the last one left counts as received, with the parity
+//! still in hand.
 
 use crate::face::Receiver;
 use crate::model::{Window, COLUMN, ROW};
@@ -19,6 +20,8 @@ pub struct Tally {
     /// Lists that began with parity in hand, and those in which it rebuilt a packet that would be missing without it.
     pub in_hand: u64,
     pub by_it: u64,
+    /// Parity packets that found their whole group present, and were compared with it.
+    pub compared: u64,
 }
 
 /// An offer: port, datagram, and whether a member of its group lies behind the base.
@@ -82,9 +85,8 @@ pub fn run(seed: u64, tally: &mut Tally) -> Result<(), String> {
         tally.lists += 1;
         tally.offers += list.len() as u64;
         let about = format!("{asked:?}\n  unreceived {unreceived:016b}, groups {groups:?}");
-        Receiver::open(asked)
-            .and_then(|mut receiver| judge(&mut receiver, &stretch, 0, &list, expected))
-            .map_err(|text| format!("{about}\n  {text}"))?;
+        let compared = Receiver::open(asked).and_then(|mut receiver| judge(&mut receiver, &stretch, 0, &list, expected));
+        tally.compared += compared.map_err(|text| format!("{about}\n  {text}"))?;
         tally.lost += u64::from(unreceived.count_ones());
         tally.rebuilt += u64::from((unreceived & !expected).count_ones());
         tally.partly += u64::from(expected != 0 && expected != unreceived);
@@ -92,8 +94,10 @@ pub fn run(seed: u64, tally: &mut Tally) -> Result<(), String> {
     Ok(())
 }
 
-/// Offers a list to a window whose base is at a position of the stretch, and judges what is left.
-fn judge(receiver: &mut Receiver, stretch: &Stretch, at: usize, list: &[Offer], expected: u32) -> Result<(), String> {
+/// Offers a list to a window whose base is at a position of the stretch, and judges what is left. Answers how many parity packets
+/// found their whole group present: such a one alone is answered 0 and alters nothing.
+fn judge(receiver: &mut Receiver, stretch: &Stretch, at: usize, list: &[Offer], expected: u32) -> Result<u64, String> {
+    let mut compared = 0;
     for (step, (port, datagram, behind)) in list.iter().enumerate() {
         let before = receiver.window;
         let answer = receiver.offer(*port, datagram);
@@ -107,6 +111,7 @@ fn judge(receiver: &mut Receiver, stretch: &Stretch, at: usize, list: &[Offer], 
         if answer.spoilt != 0 || !right {
             return Err(format!("offer {step} on port {port} was answered {answer:?}, before it {before:?}"));
         }
+        compared += u64::from(*port != 1 && answer.number == 0 && answer.window == before);
     }
     let n = receiver.window.n as usize;
     let missing = (0..n).filter(|&i| receiver.marks[i] == 0).fold(0u32, |set, i| set | 1 << i);
@@ -121,7 +126,7 @@ fn judge(receiver: &mut Receiver, stretch: &Stretch, at: usize, list: &[Offer], 
             other => return Err(format!("reading position {i}: {other:?}, sent was {sent:?}")),
         }
     }
-    Ok(())
+    Ok(compared)
 }
 
 /// A window over one long stretch: a list, a move, a list, a move and so on. Each list is offered in two orders, from the store that
@@ -213,7 +218,7 @@ fn round_and_move(rng: &mut Rng, receiver: &mut Receiver, stretch: &Stretch, at:
         tally.lists += 1;
         tally.offers += list.len() as u64;
         let mut end = receiver.clone();
-        judge(&mut end, stretch, *at, &list, expected)
+        tally.compared += judge(&mut end, stretch, *at, &list, expected)
             .map_err(|text| format!("present {present:016b}, received {received:016b}, in hand {held:?}, groups {groups:?}\n  {text}"))?;
         tally.lost += u64::from(unreceived.count_ones());
         tally.rebuilt += u64::from((unreceived & !expected).count_ones());

@@ -1,6 +1,7 @@
 //! Random traffic through both programs, a window at a time. A window is drawn wholly from its seed.
 
-use crate::model::{Record, Stamp, Window, COLUMN, ROW};
+use crate::lies;
+use crate::model::{Answer, Record, Stamp, Window, COLUMN, ROW};
 use crate::pair::{Call, Pair, Sizes, Tally};
 use crate::rng::Rng;
 use crate::wire::{unit, Stretch};
@@ -34,6 +35,8 @@ struct Mood {
     repeats: u64,
     /// Before an offer, while moves are left.
     moves: u64,
+    /// Before an offer, of parity over a group that is wholly present.
+    whole: u64,
     /// Old bytes stand wherever nothing is kept, from the opening on.
     dirty: bool,
     /// Every offer is an unaltered packet of the stretch, and nobody else writes the store.
@@ -73,12 +76,13 @@ enum Change {
 pub fn run(seed: u64, tally: &mut Tally) -> Result<(), String> {
     let mut rng = Rng::new(seed, 3);
     let knotted = rng.chance(120);
-    let asked = if knotted { draw_knotted_window(&mut rng) } else { draw_window(seed, &mut rng) };
+    let betrayed = !knotted && rng.chance(60);
+    let asked = if knotted || betrayed { draw_knotted_window(&mut rng, betrayed) } else { draw_window(seed, &mut rng) };
     tally.windows += 1;
     tally.profiles.insert((asked.l, asked.d));
     let slack = rng.pick(&[0, 0, 1, 3, 20]);
     let calm = rng.chance(250);
-    let lies = if knotted { 1000 } else { rng.pick(&[0, 0, 100, 600, 1000]) };
+    let lies = if knotted || betrayed { 1000 } else { rng.pick(&[0, 0, 100, 600, 1000]) };
     let unaltered = calm && lies == 0;
     let mood = Mood {
         disturb: if calm { 0 } else { rng.pick(&[20, 100, 300]) },
@@ -87,13 +91,18 @@ pub fn run(seed: u64, tally: &mut Tally) -> Result<(), String> {
         lies,
         repeats: rng.pick(&[0, 50, 300]),
         moves: rng.pick(&[10, 40, 150]),
+        whole: rng.pick(&[0, 0, 30, 150]),
         dirty: !unaltered && rng.chance(500),
         unaltered,
     };
     let moves_left = rng.pick(&[0, 0, 0, 0, 1, 2, 4, 8]);
     let mut play = Play::new(rng, mood, asked, slack, moves_left, tally);
     let (rng, stretch) = (&mut play.rng, &play.stretch);
-    let list = if knotted { knot(rng, stretch) } else { offers(rng, stretch, play.mood.lies, play.mood.repeats) };
+    let list = match (knotted, betrayed) {
+        (true, _) => knot(rng, stretch),
+        (_, true) => betray(rng, stretch),
+        _ => offers(rng, stretch, play.mood.lies, play.mood.repeats),
+    };
     let result = play.whole(list);
     result.map_err(|text| format!("step {}\n{text}", play.step))
 }
@@ -109,7 +118,7 @@ pub fn run_long(seed: u64, tally: &mut Tally) -> Result<(), String> {
     let asked =
         Window { base, ssrc: rng.next() as u32, l, d, p: rng.pick(&[188, 204, 376]), n, k: rng.between(1, 24), present: 0, in_use: 0 };
     let unaltered = seed % 2 == 0;
-    let mood = Mood { disturb: 0, made_up: 0, short: 0, lies: 0, repeats: 0, moves: 0, dirty: false, unaltered };
+    let mood = Mood { disturb: 0, made_up: 0, short: 0, lies: 0, repeats: 0, moves: 0, whole: 0, dirty: false, unaltered };
     let mut play = Play::new(rng, mood, asked, 0, u64::MAX, tally);
     let result = play.far(65_536 * (2 + seed % 3));
     result.map_err(|text| format!("step {}\n{text}", play.step))
@@ -146,13 +155,14 @@ fn draw_window(seed: u64, rng: &mut Rng) -> Window {
     Window { base, ssrc: rng.next() as u32, l, d, p, n, k, present: 0, in_use: 0 }
 }
 
-/// A window with room for groups that begin in the second row of the matrix, and for many of them.
-fn draw_knotted_window(rng: &mut Rng) -> Window {
+/// A window with room for groups that begin in the second row of the matrix, and for many of them, at times for few.
+fn draw_knotted_window(rng: &mut Rng, few: bool) -> Window {
     let (l, d) = rng.pick(&[(4, 4), (4, 4), (4, 5), (5, 4), (6, 4)]);
     let n = l * d + l * rng.between(1, 3) + rng.below(l);
     let base = (65_536 - rng.below(n + 1)) as u16;
     let p = rng.pick(&[188, 188, 376, 408, 564]);
-    Window { base, ssrc: rng.next() as u32, l, d, p, n, k: rng.between(40, 128), present: 0, in_use: 0 }
+    let k = if few && rng.chance(500) { rng.between(1, 3) } else { rng.between(40, 128) };
+    Window { base, ssrc: rng.next() as u32, l, d, p, n, k, present: 0, in_use: 0 }
 }
 
 /// A value near the present one, or one that no set-up has.
@@ -263,6 +273,32 @@ fn knot(rng: &mut Rng, stretch: &Stretch) -> Vec<(u8, Vec<u8>)> {
     list.extend(parity);
     rng.shuffle(&mut late);
     list.extend(late.into_iter().map(|i| (1, stretch.media(i, 0))));
+    list
+}
+
+/// All but a few packets arrive. Then parity that lies rebuilds each of these, and after it comes what is true: other groups that cover
+/// it, the same one, and the packet itself.
+fn betray(rng: &mut Rng, stretch: &Stretch) -> Vec<(u8, Vec<u8>)> {
+    let n = stretch.n();
+    let late: Vec<usize> = (0..rng.between(1, 4)).map(|_| rng.index(n)).collect();
+    let mut list: Vec<(u8, Vec<u8>)> = (0..n).filter(|i| !late.contains(i)).map(|i| (1, stretch.media(i, 0))).collect();
+    for &i in &late {
+        let covers = |stream: u8, start: i64| stretch.fits(stream, start) && stretch.members(stream, start).contains(&(i as i64));
+        let starts = (0..n as i64).flat_map(|start| [(COLUMN, start), (ROW, start)]);
+        let mut groups: Vec<(u8, i64)> = starts.filter(|&(stream, start)| covers(stream, start)).collect();
+        rng.shuffle(&mut groups);
+        groups.truncate(6);
+        let mut parity: Vec<(u8, Vec<u8>)> =
+            groups.iter().map(|&(stream, start)| (stream + 2, stretch.parity(stream, start, 0, 0, 0))).collect();
+        let mut lie = parity[0].clone();
+        lies::unseen(rng, stretch.payloads[i].len(), &mut lie.1);
+        list.push(lie.clone());
+        parity.extend([lie, (1, stretch.media(i, 0))]);
+        if rng.chance(500) {
+            rng.shuffle(&mut parity);
+        }
+        list.extend(parity);
+    }
     list
 }
 
@@ -498,6 +534,9 @@ impl<'a> Play<'a> {
             while self.rng.chance(self.mood.disturb) {
                 self.disturb()?;
             }
+            while self.rng.chance(self.mood.whole) {
+                self.offer_on_whole()?;
+            }
             if self.moves_left > 0 && self.rng.chance(self.mood.moves) {
                 self.advance()?;
             }
@@ -671,6 +710,69 @@ impl<'a> Play<'a> {
         }
         datagram.extend(payload);
         (port, datagram)
+    }
+
+    /// A group that is wholly present: the first that is found, of a few.
+    fn whole_group(&mut self) -> Option<(u8, i64)> {
+        let n = self.stretch.n();
+        for _ in 0..6 {
+            let (stream, start) = (self.rng.pick(&[COLUMN, ROW]), self.rng.index(n) as i64);
+            let whole = || self.stretch.members(stream, start).iter().all(|&i| self.pair.mark(i as usize) == 1);
+            if self.stretch.fits(stream, start) && whole() {
+                return Some((stream, start));
+            }
+        }
+        None
+    }
+
+    /// Offers the parity of a group that is wholly present, as the store has it: a true one, or with one lie in it, or with the
+    /// SNBase of another such group.
+    fn offer_on_whole(&mut self) -> Result<(), String> {
+        let stamp = Stamp { sequence: self.rng.next() as u16, timestamp: self.rng.next() as u32, ssrc: self.rng.next() as u32 };
+        let (stream, start) = match self.whole_group() {
+            Some(found) => found,
+            None => return Ok(()),
+        };
+        let mut datagram = match self.pair.defined(self.window, stream, self.stretch.number(start), stamp) {
+            Some(datagram) => datagram,
+            None => return Ok(()),
+        };
+        let mut moved = false;
+        match self.rng.below(10) {
+            _ if self.mood.unaltered => {}
+            0 => {}
+            1 => {
+                if let Some((_, other)) = self.whole_group().filter(|&(other, _)| other == stream) {
+                    datagram[12..14].copy_from_slice(&self.stretch.number(other).to_be_bytes());
+                    moved = true;
+                }
+            }
+            _ => lies::lie(&mut self.rng, self.stretch.p, &mut datagram),
+        }
+        let before = self.tally.numbers[18];
+        self.call(on_port(stream + 2, datagram))?;
+        let refused = self.tally.numbers[18] > before;
+        self.tally.lies.met("with the SNBase of another group", moved && refused);
+        Ok(())
+    }
+
+    /// Notes a packet as it was sent that meets 18, and one that was not sent so and is taken, its whole group being present.
+    fn note_truth(&mut self, call: &Call, window: Window, answer: Answer) {
+        let (stream, datagram) = match call {
+            Call::Column(datagram) => (COLUMN, datagram),
+            Call::Row(datagram) => (ROW, datagram),
+            _ => return,
+        };
+        let altered = (answer.count, answer.spoilt, answer.window) != (0, 0, window);
+        if altered || !matches!(answer.number, 0 | 18) {
+            return;
+        }
+        let start = i64::from(u16::from_be_bytes([datagram[12], datagram[13]]).wrapping_sub(self.stretch.base) as i16);
+        if self.stretch.fits(stream, start) {
+            let sent = self.stretch.parity(stream, start, 0, 0, 0)[12..] == datagram[12..];
+            self.tally.lies.met("what was sent, after a lie", sent && answer.number == 18);
+            self.tally.lies.met("taken, and not what was sent", !sent && answer.number == 0);
+        }
     }
 
     /// A length that is kept, good in so many cases of a thousand.
@@ -993,9 +1095,10 @@ impl<'a> Play<'a> {
         self.step += 1;
         let filler = self.rng.byte();
         let answer = self.pair.run(window, &call, lent, filler, self.tally)?;
-        if answer.spoilt != 0 && self.mood.unaltered && self.started {
-            return Err(format!("  {} spoilt by unaltered traffic\n", answer.spoilt));
+        if self.mood.unaltered && self.started && (answer.spoilt != 0 || matches!(answer.number, 15 | 18)) {
+            return Err(format!("  {} with {} spoilt for unaltered traffic\n", answer.number, answer.spoilt));
         }
+        self.note_truth(&call, window, answer);
         if !made_up || answer.number == 0 {
             self.window = answer.window;
         }
@@ -1039,7 +1142,8 @@ mod tests {
             let (mut a, mut b) = (Tally::default(), Tally::default());
             run(seed, &mut a).unwrap();
             run(seed, &mut b).unwrap();
-            assert_eq!((a.calls, a.numbers, a.rebuilt, a.spoilt, a.moves), (b.calls, b.numbers, b.rebuilt, b.spoilt, b.moves));
+            assert_eq!((a.calls, a.numbers, a.rebuilt, a.spoilt), (b.calls, b.numbers, b.rebuilt, b.spoilt));
+            assert_eq!((a.moves, a.lies), (b.moves, b.lies));
         }
     }
 }

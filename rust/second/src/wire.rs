@@ -8,6 +8,8 @@ pub struct Stretch {
     pub l: usize,
     pub d: usize,
     pub p: usize,
+    /// The longest payload, which may be below P.
+    most: usize,
     pub timestamps: Vec<u32>,
     /// One or more whole units up to P, each packet its own.
     pub payloads: Vec<Vec<u8>>,
@@ -26,9 +28,9 @@ pub fn unit(p: usize) -> usize {
     }
 }
 
-fn draw_payload(rng: &mut Rng, p: usize, sparse: bool, short: u64) -> Vec<u8> {
-    let units = (p / unit(p)) as u64;
-    let len = if rng.chance(short) { rng.between(1, units) as usize * unit(p) } else { p };
+fn draw_payload(rng: &mut Rng, unit: usize, most: usize, sparse: bool, short: u64) -> Vec<u8> {
+    let units = (most / unit) as u64;
+    let len = if rng.chance(short) { rng.between(1, units) as usize * unit } else { most };
     let mut bytes = vec![0; len];
     if sparse {
         bytes[rng.index(len)] = rng.byte();
@@ -47,8 +49,10 @@ impl Stretch {
         // Sparse payloads are mostly zeros, so that a length is all that tells some of them apart.
         let sparse = rng.chance(150);
         let short = rng.pick(&[0, 100, 500, 1000, 1000]);
-        let payloads = (0..n).map(|_| draw_payload(rng, p, sparse, short)).collect();
-        Stretch { base, l, d, p, timestamps, payloads, wild, step, sparse, short }
+        let units = (p / unit(p)) as u64;
+        let most = unit(p) * if rng.chance(250) { rng.between(1, units) } else { units } as usize;
+        let payloads = (0..n).map(|_| draw_payload(rng, unit(p), most, sparse, short)).collect();
+        Stretch { base, l, d, p, most, timestamps, payloads, wild, step, sparse, short }
     }
 
     /// The stretch of the same sender so many packets later: what both have is the same.
@@ -57,7 +61,7 @@ impl Stretch {
         for _ in 0..by {
             let last = self.timestamps[self.n() - 1];
             self.timestamps.push(if self.wild { rng.next() as u32 } else { last.wrapping_add(self.step) });
-            self.payloads.push(draw_payload(rng, self.p, self.sparse, self.short));
+            self.payloads.push(draw_payload(rng, unit(self.p), self.most, self.sparse, self.short));
         }
         self.timestamps.drain(..by);
         self.payloads.drain(..by);

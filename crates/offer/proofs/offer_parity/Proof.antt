@@ -81,11 +81,11 @@ returns-2 c =
 
 parity-place-fault-requires : tie.Need-parity-place-fault-requires
 parity-place-fault-requires c κs =
-    let a = c .before .before .before .before .before .before .before .before .before .before .before .before .before .before .before .before .before .before .before .before .before .before .args in
+    let a = c .before .before .before .before .before .before .before .before .before .before .before .before .before .before .before .before .before .before .before .before .before .before .before .before .before .args in
     let x = parts (a .media .now) (a .timestamps .now) (a .lengths .now) (a .marks .now) (a .parity .now) (a .rows .now) in
-    let s = stands (a .w) x (a .len) _ (c .before .before .before .before .before .before .before .before .standing .result) (c .before .before .before .before .before .before .before .before .standing .ensures) (c .before .before .before .before .before .if1 .left) in
-    let l = length-same (c .before .before .before .before .before .before .before .before .standing .last .1 .1 .1 .1 .1 .1 .0) (a .rows .now) (omega (arith, c .before .before .before .before .before .before .before .before .standing .kept)) in
-    (s .set-up, s .long .marks-long, s .long .parity-long, l ∙ c .before .before .before .before .before .before .before .before .before .before .before .before .before .before .before .before .before .before .before .before .before .before .pre .0, λ i h u. s .sound .at i (omega (arith, h, l, c .before .before .before .before .before .before .before .before .before .before .before .before .before .before .before .before .before .before .before .before .before .before .pre .0)) u .slot-low, parity-long (a .stream) (a .w .l) (a .w .d) (a .w .p) (a .datagram .now) (c .before .before .before .before .parity-fault .result) (c .before .before .before .before .parity-fault .ensures) (c .before .before .before .if2 .left))
+    let s = stands (a .w) x (a .len) _ (c .before .before .before .before .before .before .before .before .before .before .before .standing .result) (c .before .before .before .before .before .before .before .before .before .before .before .standing .ensures) (c .before .before .before .before .before .before .before .before .if1 .left) in
+    let l = length-same (c .before .before .before .before .before .before .before .before .before .before .before .standing .last .1 .1 .1 .1 .1 .1 .0) (a .rows .now) (omega (arith, c .before .before .before .before .before .before .before .before .before .before .before .standing .kept)) in
+    (s .set-up, s .long .marks-long, s .long .parity-long, l ∙ c .before .before .before .before .before .before .before .before .before .before .before .before .before .before .before .before .before .before .before .before .before .before .before .before .before .pre .0, λ i h u. s .sound .at i (omega (arith, h, l, c .before .before .before .before .before .before .before .before .before .before .before .before .before .before .before .before .before .before .before .before .before .before .before .before .before .pre .0)) u .slot-low, parity-long (a .stream) (a .w .l) (a .w .d) (a .w .p) (a .datagram .now) (c .before .before .before .before .before .before .before .parity-fault .result) (c .before .before .before .before .before .before .before .parity-fault .ensures) (c .before .before .before .before .before .before .if2 .left), s .long .media-long, s .long .timestamps-long, s .long .lengths-long, s .lengths-low)
 
 refused-requires-3 : tie.Need-refused-requires-3
 refused-requires-3 c κs = search needs
@@ -106,13 +106,13 @@ same-length-17 : tie.Need-same-length-17
 same-length-17 c = search needs
 
 same-length-18 : tie.Need-same-length-18
-same-length-18 c = search needs
+same-length-18 c = omega (arith, c .before .before .before .before .before .before .before .before .before .before .before .before .before .before .before .standing .kept)
 
 returns-3 : tie.Need-returns-3
 returns-3 c =
-    let a = c .before .before .before .before .before .before .before .before .before .before .before .before .before .before .before .before .before .before .before .before .before .before .before .before .before .before .args in
+    let a = c .before .before .before .before .before .before .before .before .before .before .before .before .before .before .before .before .before .before .before .before .before .before .before .before .before .before .before .before .before .args in
     let x = parts (a .media .now) (a .timestamps .now) (a .lengths .now) (a .marks .now) (a .parity .now) (a .rows .now) in
-    rw (c .refused3 .ensures) (parity-placed (a .w) x (a .len) _ (c .before .before .before .before .before .before .before .before .before .before .before .before .standing .result) (c .before .before .before .before .before .before .before .before .before .before .before .before .standing .ensures) (a .stream) (a .datagram .now) (c .before .before .before .before .before .before .before .before .before .if1 .left) (c .before .before .before .before .before .before .before .before .parity-fault .result) (c .before .before .before .before .before .before .before .before .parity-fault .ensures) (c .before .before .before .before .before .before .before .if2 .left) (c .before .before .before .parity-place-fault .result .fault) (λ t f. c .before .before .before .parity-place-fault .ensures .is (a .media .now) (a .timestamps .now) (a .lengths .now) t f) (c .before .if3 .taken))
+    rw (c .refused3 .ensures) (parity-placed (a .w) x (a .len) _ (c .before .before .before .before .before .before .before .before .before .before .before .before .before .before .before .standing .result) (c .before .before .before .before .before .before .before .before .before .before .before .before .before .before .before .standing .ensures) (a .stream) (a .datagram .now) (c .before .before .before .before .before .before .before .before .before .before .before .before .if1 .left) (c .before .before .before .before .before .before .before .before .before .before .before .parity-fault .result) (c .before .before .before .before .before .before .before .before .before .before .before .parity-fault .ensures) (c .before .before .before .before .before .before .before .before .before .before .if2 .left) (c .before .before .before .parity-place-fault .result .fault) (c .before .before .before .parity-place-fault .ensures .is) (c .before .if3 .taken))
 
 enum-told : tie.Need-enum-told
 enum-told c = search needs
@@ -125,22 +125,22 @@ enum-known-found c = search needs
 
 accept-last-requires : tie.Need-accept-last-requires
 accept-last-requires c κs =
-    let a = c .before .before .before .before .before .before .before .before .before .before .before .before .before .before .before .before .before .before .before .before .before .before .before .before .before .before .before .before .before .before .before .before .before .before .args in
+    let a = c .before .before .before .before .before .before .before .before .before .before .before .before .before .before .before .before .before .before .before .before .before .before .before .before .before .before .before .before .before .before .before .before .before .before .before .before .before .args in
     let x = parts (a .media .now) (a .timestamps .now) (a .lengths .now) (a .marks .now) (a .parity .now) (a .rows .now) in
-    let s = stands (a .w) x (a .len) _ (c .before .before .before .before .before .before .before .before .before .before .before .before .before .before .before .before .before .before .before .before .standing .result) (c .before .before .before .before .before .before .before .before .before .before .before .before .before .before .before .before .before .before .before .before .standing .ensures) (c .before .before .before .before .before .before .before .before .before .before .before .before .before .before .before .before .before .if1 .left) in
-    let l = length-same (c .before .before .before .before .before .before .before .before .before .before .before .before .before .before .before .before .before .before .before .before .standing .last .1 .1 .1 .1 .1 .1 .0) (a .rows .now) (omega (arith, c .before .before .before .before .before .before .before .before .before .before .before .before .before .before .before .before .before .before .before .before .standing .kept)) in
-    (serves (a .w) x (a .len) _ (c .before .before .before .before .before .before .before .before .before .before .before .before .before .before .before .before .before .before .before .before .standing .result) (c .before .before .before .before .before .before .before .before .before .before .before .before .before .before .before .before .before .before .before .before .standing .ensures) (c .before .before .before .before .before .before .before .before .before .before .before .before .before .before .before .before .before .if1 .left), l ∙ c .before .before .before .before .before .before .before .before .before .before .before .before .before .before .before .before .before .before .before .before .before .before .before .before .before .before .before .before .before .before .before .before .before .before .pre .0, parity-long (a .stream) (a .w .l) (a .w .d) (a .w .p) (a .datagram .now) (c .before .before .before .before .before .before .before .before .before .before .before .before .before .before .before .before .parity-fault .result) (c .before .before .before .before .before .before .before .before .before .before .before .before .before .before .before .before .parity-fault .ensures) (c .before .before .before .before .before .before .before .before .before .before .before .before .before .before .before .if2 .left), c .before .before .before .before .before .before .before .before .before .before .before .parity-place-fault .ensures .inside (c .before .before .before .before .before .before .before .before .before .if3 .left), one-missing (a .marks .now) (group (a .w) (a .stream) (snbase (a .datagram .now))) _ _ (sym (c .before .before .before .before .before .before .before .before .before .before .before .parity-place-fault .ensures .looked (c .before .before .before .before .before .before .before .before .before .if3 .left)) ∙ c .before .before .before .before .before .before .before .found .given .1), s .few-present, omega (arith, s .few-used, l, c .before .before .before .before .before .before .before .before .before .before .before .before .before .before .before .before .before .before .before .before .before .before .before .before .before .before .before .before .before .before .before .before .before .before .pre .0, c .before .before .before .before .before .before .before .before .before .before .before .before .before .before .before .before .before .before .before .before .before .before .before .before .before .before .before .before .before .before .before .before .before .before .pre .1))
+    let s = stands (a .w) x (a .len) _ (c .before .before .before .before .before .before .before .before .before .before .before .before .before .before .before .before .before .before .before .before .before .before .before .standing .result) (c .before .before .before .before .before .before .before .before .before .before .before .before .before .before .before .before .before .before .before .before .before .before .before .standing .ensures) (c .before .before .before .before .before .before .before .before .before .before .before .before .before .before .before .before .before .before .before .before .if1 .left) in
+    let l = length-same (c .before .before .before .before .before .before .before .before .before .before .before .before .before .before .before .before .before .before .before .before .before .before .before .standing .last .1 .1 .1 .1 .1 .1 .0) (a .rows .now) (omega (arith, c .before .before .before .before .before .before .before .before .before .before .before .before .before .before .before .before .before .before .before .before .before .before .before .standing .kept)) in
+    (serves (a .w) x (a .len) _ (c .before .before .before .before .before .before .before .before .before .before .before .before .before .before .before .before .before .before .before .before .before .before .before .standing .result) (c .before .before .before .before .before .before .before .before .before .before .before .before .before .before .before .before .before .before .before .before .before .before .before .standing .ensures) (c .before .before .before .before .before .before .before .before .before .before .before .before .before .before .before .before .before .before .before .before .if1 .left), l ∙ c .before .before .before .before .before .before .before .before .before .before .before .before .before .before .before .before .before .before .before .before .before .before .before .before .before .before .before .before .before .before .before .before .before .before .before .before .before .pre .0, parity-long (a .stream) (a .w .l) (a .w .d) (a .w .p) (a .datagram .now) (c .before .before .before .before .before .before .before .before .before .before .before .before .before .before .before .before .before .before .before .parity-fault .result) (c .before .before .before .before .before .before .before .before .before .before .before .before .before .before .before .before .before .before .before .parity-fault .ensures) (c .before .before .before .before .before .before .before .before .before .before .before .before .before .before .before .before .before .before .if2 .left), c .before .before .before .before .before .before .before .before .before .before .before .parity-place-fault .ensures .inside (c .before .before .before .before .before .before .before .before .before .if3 .left), one-missing (a .marks .now) (group (a .w) (a .stream) (snbase (a .datagram .now))) _ _ (sym (c .before .before .before .before .before .before .before .before .before .before .before .parity-place-fault .ensures .looked (c .before .before .before .before .before .before .before .before .before .if3 .left)) ∙ c .before .before .before .before .before .before .before .found .given .1), s .few-present, omega (arith, s .few-used, l, c .before .before .before .before .before .before .before .before .before .before .before .before .before .before .before .before .before .before .before .before .before .before .before .before .before .before .before .before .before .before .before .before .before .before .before .before .before .pre .0, c .before .before .before .before .before .before .before .before .before .before .before .before .before .before .before .before .before .before .before .before .before .before .before .before .before .before .before .before .before .before .before .before .before .before .before .before .before .pre .1))
 
 enum-told-2 : tie.Need-enum-told-2
 enum-told-2 c = search needs
 
 accept-held-requires : tie.Need-accept-held-requires
 accept-held-requires c κs =
-    let a = c .before .before .before .before .before .before .before .before .before .before .before .before .before .before .before .before .before .before .before .before .before .before .before .before .before .before .before .before .before .args in
+    let a = c .before .before .before .before .before .before .before .before .before .before .before .before .before .before .before .before .before .before .before .before .before .before .before .before .before .before .before .before .before .before .before .before .args in
     let x = parts (a .media .now) (a .timestamps .now) (a .lengths .now) (a .marks .now) (a .parity .now) (a .rows .now) in
-    let s = stands (a .w) x (a .len) _ (c .before .before .before .before .before .before .before .before .before .before .before .before .before .before .before .standing .result) (c .before .before .before .before .before .before .before .before .before .before .before .before .before .before .before .standing .ensures) (c .before .before .before .before .before .before .before .before .before .before .before .before .if1 .left) in
-    let l = length-same (c .before .before .before .before .before .before .before .before .before .before .before .before .before .before .before .standing .last .1 .1 .1 .1 .1 .1 .0) (a .rows .now) (omega (arith, c .before .before .before .before .before .before .before .before .before .before .before .before .before .before .before .standing .kept)) in
-    (s .long .parity-long, l ∙ c .before .before .before .before .before .before .before .before .before .before .before .before .before .before .before .before .before .before .before .before .before .before .before .before .before .before .before .before .before .pre .0, s .free-low (c .before .before .before .before .before .before .parity-place-fault .ensures .room (c .before .before .before .before .if3 .left) (rw (c .before .before .enum-told2 .given .1) (omega arith))), parity-long (a .stream) (a .w .l) (a .w .d) (a .w .p) (a .datagram .now) (c .before .before .before .before .before .before .before .before .before .before .before .parity-fault .result) (c .before .before .before .before .before .before .before .before .before .before .before .parity-fault .ensures) (c .before .before .before .before .before .before .before .before .before .before .if2 .left), omega (arith, s .few-used, l, c .before .before .before .before .before .before .before .before .before .before .before .before .before .before .before .before .before .before .before .before .before .before .before .before .before .before .before .before .before .pre .0, c .before .before .before .before .before .before .before .before .before .before .before .before .before .before .before .before .before .before .before .before .before .before .before .before .before .before .before .before .before .pre .1), s .set-up .p-high)
+    let s = stands (a .w) x (a .len) _ (c .before .before .before .before .before .before .before .before .before .before .before .before .before .before .before .before .before .before .standing .result) (c .before .before .before .before .before .before .before .before .before .before .before .before .before .before .before .before .before .before .standing .ensures) (c .before .before .before .before .before .before .before .before .before .before .before .before .before .before .before .if1 .left) in
+    let l = length-same (c .before .before .before .before .before .before .before .before .before .before .before .before .before .before .before .before .before .before .standing .last .1 .1 .1 .1 .1 .1 .0) (a .rows .now) (omega (arith, c .before .before .before .before .before .before .before .before .before .before .before .before .before .before .before .before .before .before .standing .kept)) in
+    (s .long .parity-long, l ∙ c .before .before .before .before .before .before .before .before .before .before .before .before .before .before .before .before .before .before .before .before .before .before .before .before .before .before .before .before .before .before .before .before .pre .0, s .free-low (c .before .before .before .before .before .before .parity-place-fault .ensures .room (c .before .before .before .before .if3 .left) (rw (c .before .before .enum-told2 .given .1) (omega arith))), parity-long (a .stream) (a .w .l) (a .w .d) (a .w .p) (a .datagram .now) (c .before .before .before .before .before .before .before .before .before .before .before .before .before .before .parity-fault .result) (c .before .before .before .before .before .before .before .before .before .before .before .before .before .before .parity-fault .ensures) (c .before .before .before .before .before .before .before .before .before .before .before .before .before .if2 .left), omega (arith, s .few-used, l, c .before .before .before .before .before .before .before .before .before .before .before .before .before .before .before .before .before .before .before .before .before .before .before .before .before .before .before .before .before .before .before .before .pre .0, c .before .before .before .before .before .before .before .before .before .before .before .before .before .before .before .before .before .before .before .before .before .before .before .before .before .before .before .before .before .before .before .before .pre .1), s .set-up .p-high)
 
 same-length-19 : tie.Need-same-length-19
 same-length-19 c = search needs
@@ -158,13 +158,13 @@ same-length-23 : tie.Need-same-length-23
 same-length-23 c = search needs
 
 same-length-24 : tie.Need-same-length-24
-same-length-24 c = search needs
+same-length-24 c = omega (arith, c .before .before .before .before .before .before .before .before .before .before .before .before .before .before .before .before .before .standing .kept)
 
 returns-4 : tie.Need-returns-4
 returns-4 c =
-    let a = c .before .before .before .before .before .before .before .before .before .before .before .before .before .before .before .before .before .before .before .before .before .before .before .before .before .before .before .before .args in
+    let a = c .before .before .before .before .before .before .before .before .before .before .before .before .before .before .before .before .before .before .before .before .before .before .before .before .before .before .before .before .before .before .before .args in
     let x = parts (a .media .now) (a .timestamps .now) (a .lengths .now) (a .marks .now) (a .parity .now) (a .rows .now) in
-    rw (c .taken .ensures) (parity-spent (a .w) x (a .len) _ (c .before .before .before .before .before .before .before .before .before .before .before .before .before .before .standing .result) (c .before .before .before .before .before .before .before .before .before .before .before .before .before .before .standing .ensures) (a .stream) (a .datagram .now) (c .before .before .before .before .before .before .before .before .before .before .before .if1 .left) (c .before .before .before .before .before .before .before .before .before .before .parity-fault .result) (c .before .before .before .before .before .before .before .before .before .before .parity-fault .ensures) (c .before .before .before .before .before .before .before .before .before .if2 .left) (c .before .before .before .before .before .parity-place-fault .result .fault) (λ t f. c .before .before .before .before .before .parity-place-fault .ensures .is (a .media .now) (a .timestamps .now) (a .lengths .now) t f) (c .before .before .before .if3 .left) (none-missing (a .marks .now) (group (a .w) (a .stream) (snbase (a .datagram .now))) _ (sym (c .before .before .before .before .before .parity-place-fault .ensures .looked (c .before .before .before .if3 .left)) ∙ c .before .enum-told .given .1)))
+    rw (c .taken .ensures) (parity-spent (a .w) x (a .len) _ (c .before .before .before .before .before .before .before .before .before .before .before .before .before .before .before .before .before .standing .result) (c .before .before .before .before .before .before .before .before .before .before .before .before .before .before .before .before .before .standing .ensures) (a .stream) (a .datagram .now) (c .before .before .before .before .before .before .before .before .before .before .before .before .before .before .if1 .left) (c .before .before .before .before .before .before .before .before .before .before .before .before .before .parity-fault .result) (c .before .before .before .before .before .before .before .before .before .before .before .before .before .parity-fault .ensures) (c .before .before .before .before .before .before .before .before .before .before .before .before .if2 .left) (c .before .before .before .before .before .parity-place-fault .result .fault) (c .before .before .before .before .before .parity-place-fault .ensures .is) (c .before .before .before .if3 .left) (none-missing (a .marks .now) (group (a .w) (a .stream) (snbase (a .datagram .now))) _ (sym (c .before .before .before .before .before .parity-place-fault .ensures .looked (c .before .before .before .if3 .left)) ∙ c .before .enum-told .given .1)))
 
 same-length-25 : tie.Need-same-length-25
 same-length-25 c = search needs
@@ -182,13 +182,13 @@ same-length-29 : tie.Need-same-length-29
 same-length-29 c = search needs
 
 same-length-30 : tie.Need-same-length-30
-same-length-30 c = omega (arith, c .before .before .before .before .before .before .before .before .before .before .before .before .before .before .before .before .before .before .before .before .before .before .before .before .before .before .before .before .before .before .before .before .before .standing .kept, c .before .before .before .before .before .before .before .before .before .before .before .before .accept-last .kept)
+same-length-30 c = omega (arith, c .before .before .before .before .before .before .before .before .before .before .before .before .before .before .before .before .before .before .before .before .before .before .before .before .before .before .before .before .before .before .before .before .before .before .before .before .standing .kept, c .before .before .before .before .before .before .before .before .before .before .before .before .accept-last .kept)
 
 returns-5 : tie.Need-returns-5
 returns-5 c =
-    let a = c .before .before .before .before .before .before .before .before .before .before .before .before .before .before .before .before .before .before .before .before .before .before .before .before .before .before .before .before .before .before .before .before .before .before .before .before .before .before .before .before .before .before .before .before .before .before .before .args in
+    let a = c .before .before .before .before .before .before .before .before .before .before .before .before .before .before .before .before .before .before .before .before .before .before .before .before .before .before .before .before .before .before .before .before .before .before .before .before .before .before .before .before .before .before .before .before .before .before .before .before .before .before .args in
     let x = parts (a .media .now) (a .timestamps .now) (a .lengths .now) (a .marks .now) (a .parity .now) (a .rows .now) in
-    parity-accepted (a .w) x (a .len) _ (c .before .before .before .before .before .before .before .before .before .before .before .before .before .before .before .before .before .before .before .before .before .before .before .before .before .before .before .before .before .before .before .before .before .standing .result) (c .before .before .before .before .before .before .before .before .before .before .before .before .before .before .before .before .before .before .before .before .before .before .before .before .before .before .before .before .before .before .before .before .before .standing .ensures) (a .stream) (a .datagram .now) (c .before .before .before .before .before .before .before .before .before .before .before .before .before .before .before .before .before .before .before .before .before .before .before .before .before .before .before .before .before .before .if1 .left) (c .before .before .before .before .before .before .before .before .before .before .before .before .before .before .before .before .before .before .before .before .before .before .before .before .before .before .before .before .before .parity-fault .result) (c .before .before .before .before .before .before .before .before .before .before .before .before .before .before .before .before .before .before .before .before .before .before .before .before .before .before .before .before .before .parity-fault .ensures) (c .before .before .before .before .before .before .before .before .before .before .before .before .before .before .before .before .before .before .before .before .before .before .before .before .before .before .before .before .if2 .left) (c .before .before .before .before .before .before .before .before .before .before .before .before .before .before .before .before .before .before .before .before .before .before .before .before .parity-place-fault .result .fault) (λ t f. c .before .before .before .before .before .before .before .before .before .before .before .before .before .before .before .before .before .before .before .before .before .before .before .before .parity-place-fault .ensures .is (a .media .now) (a .timestamps .now) (a .lengths .now) t f) (c .before .before .before .before .before .before .before .before .before .before .before .before .before .before .before .before .before .before .before .before .before .before .if3 .left) (c .before .before .before .before .before .before .before .before .before .before .before .before .accept-last .result) _ (c .before .before .before .before .before .before .before .before .before .before .before .before .accept-last .ensures)
+    parity-accepted (a .w) x (a .len) _ (c .before .before .before .before .before .before .before .before .before .before .before .before .before .before .before .before .before .before .before .before .before .before .before .before .before .before .before .before .before .before .before .before .before .before .before .before .standing .result) (c .before .before .before .before .before .before .before .before .before .before .before .before .before .before .before .before .before .before .before .before .before .before .before .before .before .before .before .before .before .before .before .before .before .before .before .before .standing .ensures) (a .stream) (a .datagram .now) (c .before .before .before .before .before .before .before .before .before .before .before .before .before .before .before .before .before .before .before .before .before .before .before .before .before .before .before .before .before .before .before .before .before .if1 .left) (c .before .before .before .before .before .before .before .before .before .before .before .before .before .before .before .before .before .before .before .before .before .before .before .before .before .before .before .before .before .before .before .before .parity-fault .result) (c .before .before .before .before .before .before .before .before .before .before .before .before .before .before .before .before .before .before .before .before .before .before .before .before .before .before .before .before .before .before .before .before .parity-fault .ensures) (c .before .before .before .before .before .before .before .before .before .before .before .before .before .before .before .before .before .before .before .before .before .before .before .before .before .before .before .before .before .before .before .if2 .left) (c .before .before .before .before .before .before .before .before .before .before .before .before .before .before .before .before .before .before .before .before .before .before .before .before .parity-place-fault .result .fault) (c .before .before .before .before .before .before .before .before .before .before .before .before .before .before .before .before .before .before .before .before .before .before .before .before .parity-place-fault .ensures .is) (c .before .before .before .before .before .before .before .before .before .before .before .before .before .before .before .before .before .before .before .before .before .before .if3 .left) (c .before .before .before .before .before .before .before .before .before .before .before .before .accept-last .result) _ (c .before .before .before .before .before .before .before .before .before .before .before .before .accept-last .ensures)
 
 same-length-31 : tie.Need-same-length-31
 same-length-31 c = search needs
@@ -206,13 +206,13 @@ same-length-35 : tie.Need-same-length-35
 same-length-35 c = search needs
 
 same-length-36 : tie.Need-same-length-36
-same-length-36 c = omega (arith, c .before .before .before .before .before .before .before .before .before .before .before .before .before .before .before .before .before .before .standing .kept)
+same-length-36 c = omega (arith, c .before .before .before .before .before .before .before .before .before .before .before .before .before .before .before .before .before .before .before .before .before .standing .kept)
 
 returns-6 : tie.Need-returns-6
 returns-6 c =
-    let a = c .before .before .before .before .before .before .before .before .before .before .before .before .before .before .before .before .before .before .before .before .before .before .before .before .before .before .before .before .before .before .before .before .args in
+    let a = c .before .before .before .before .before .before .before .before .before .before .before .before .before .before .before .before .before .before .before .before .before .before .before .before .before .before .before .before .before .before .before .before .before .before .before .args in
     let x = parts (a .media .now) (a .timestamps .now) (a .lengths .now) (a .marks .now) (a .parity .now) (a .rows .now) in
-    parity-held (a .w) x (a .len) _ (c .before .before .before .before .before .before .before .before .before .before .before .before .before .before .before .before .before .before .standing .result) (c .before .before .before .before .before .before .before .before .before .before .before .before .before .before .before .before .before .before .standing .ensures) (a .stream) (a .datagram .now) (c .before .before .before .before .before .before .before .before .before .before .before .before .before .before .before .if1 .left) (c .before .before .before .before .before .before .before .before .before .before .before .before .before .before .parity-fault .result) (c .before .before .before .before .before .before .before .before .before .before .before .before .before .before .parity-fault .ensures) (c .before .before .before .before .before .before .before .before .before .before .before .before .before .if2 .left) (c .before .before .before .before .before .before .before .before .before .parity-place-fault .result .fault) (λ t f. c .before .before .before .before .before .before .before .before .before .parity-place-fault .ensures .is (a .media .now) (a .timestamps .now) (a .lengths .now) t f) (c .before .before .before .before .before .before .before .if3 .left) (more-missing (a .marks .now) (group (a .w) (a .stream) (snbase (a .datagram .now))) _ (sym (c .before .before .before .before .before .before .before .before .before .parity-place-fault .ensures .looked (c .before .before .before .before .before .before .before .if3 .left)) ∙ c .before .before .before .before .before .enum-told2 .given .1)) (c .before .before .before .before .before .before .before .before .before .parity-place-fault .ensures .room (c .before .before .before .before .before .before .before .if3 .left) (rw (c .before .before .before .before .before .enum-told2 .given .1) (omega arith))) (c .before .before .accept-held .result) _ (c .before .before .accept-held .ensures)
+    parity-held (a .w) x (a .len) _ (c .before .before .before .before .before .before .before .before .before .before .before .before .before .before .before .before .before .before .before .before .before .standing .result) (c .before .before .before .before .before .before .before .before .before .before .before .before .before .before .before .before .before .before .before .before .before .standing .ensures) (a .stream) (a .datagram .now) (c .before .before .before .before .before .before .before .before .before .before .before .before .before .before .before .before .before .before .if1 .left) (c .before .before .before .before .before .before .before .before .before .before .before .before .before .before .before .before .before .parity-fault .result) (c .before .before .before .before .before .before .before .before .before .before .before .before .before .before .before .before .before .parity-fault .ensures) (c .before .before .before .before .before .before .before .before .before .before .before .before .before .before .before .before .if2 .left) (c .before .before .before .before .before .before .before .before .before .parity-place-fault .result .fault) (c .before .before .before .before .before .before .before .before .before .parity-place-fault .ensures .is) (c .before .before .before .before .before .before .before .if3 .left) (more-missing (a .marks .now) (group (a .w) (a .stream) (snbase (a .datagram .now))) _ (sym (c .before .before .before .before .before .before .before .before .before .parity-place-fault .ensures .looked (c .before .before .before .before .before .before .before .if3 .left)) ∙ c .before .before .before .before .before .enum-told2 .given .1)) (c .before .before .before .before .before .before .before .before .before .parity-place-fault .ensures .room (c .before .before .before .before .before .before .before .if3 .left) (rw (c .before .before .before .before .before .enum-told2 .given .1) (omega arith))) (c .before .before .accept-held .result) _ (c .before .before .accept-held .ensures)
 
 pub offer-parity-spec : {M : Type 1} → statement M
 offer-parity-spec =
