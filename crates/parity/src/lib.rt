@@ -138,7 +138,19 @@ pub fn xor_rows(
     xor_rest(sum, at, media, rows, fours, n, p);
 }
 
-// The payloads of the first ten of n rows laid over sum from at, or zeros where there are not ten; how many rows that were.
+// The payloads of the first four of n rows laid over sum from at.
+fn sum_four(sum: &mut [u8], at: usize, media: &[u8], rows: &[usize], n: usize, p: usize)
+    requires { ⌜ (at + p ≤ length (now sum)) × Rows (now rows) n p (length (now media)) × (4 ≤ n) ⌝ }
+    ensures { λ _. ⌜ now (sum .exit) ≡ xorParts (now (media .entry)) (places p (take 4 (now (rows .entry)))) at p (paste (now (sum .entry)) at (replicate p 0) p) ⌝ }
+{
+    let a = rows[0] * p;
+    let b = rows[1] * p;
+    let c = rows[2] * p;
+    let d = rows[3] * p;
+    xor::sum4_at(sum, at, media, a, b, c, d, p);
+}
+
+// The payloads of the first ten of n rows laid over sum from at, or of the first four, or zeros where there are not four; how many rows that were.
 pub fn sum_first(
     sum: &mut [u8],
     at: usize,
@@ -150,9 +162,13 @@ pub fn sum_first(
     requires { ⌜ (at + p ≤ length (now sum)) × Rows (now rows) n p (length (now media)) ⌝ }
     ensures { λ r. ⌜ (r ≤ n) × (now (sum .exit) ≡ xorParts (now (media .entry)) (places p (take r (now (rows .entry)))) at p (paste (now (sum .entry)) at (replicate p 0) p)) ⌝ }
 {
-    if n < 10 {
+    if n < 4 {
         xor::zero_at(sum, at, p);
         return 0;
+    }
+    if n < 10 {
+        sum_four(sum, at, media, rows, n, p);
+        return 4;
     }
     let a = rows[0] * p;
     let b = rows[1] * p;
