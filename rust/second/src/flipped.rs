@@ -1,5 +1,6 @@
-//! Parity packets of real senders with a bit changed, each bit in turn, after all media of their group is in (02, request 6). Both
-//! programs answer the same and leave the same bytes, and the number is the one that the documents have for the field.
+//! Parity packets of real senders with a bit changed, each bit in turn, or with their payload a unit longer or shorter, after all media of
+//! their group is in (02, request 6). Both programs answer the same and leave the same bytes, and the number is the one that the
+//! documents have for the field.
 
 use crate::captures::Capture;
 use crate::model::{four, two, Answer, Window};
@@ -10,6 +11,8 @@ use crate::rng::Rng;
 const GUARD: usize = 8;
 /// Of the payload all bits of the first, the middle and the last byte are changed, and one of so many others.
 const OTHERS: usize = 40;
+/// All captures have transport packets of this size.
+const UNIT: usize = 188;
 
 #[derive(Default)]
 pub struct Tally {
@@ -21,14 +24,22 @@ pub struct Tally {
     /// With another SNBase: those that found one or more missing, and those over another whole group.
     pub incomplete: u64,
     pub whole: u64,
+    /// A unit longer, by zeros, and a unit shorter, where that is refused with 18.
+    pub longer: u64,
+    pub shorter: u64,
 }
 
 impl Tally {
     /// What has to be met, with how often it was.
     pub fn met(&self) -> Vec<(String, u64)> {
-        let numbers = [0, 7, 8, 10, 11, 12, 13, 15, 16, 18].into_iter().map(|number: usize| (number.to_string(), self.numbers[number]));
-        let others =
-            [("all records in use", self.full), ("another incomplete group", self.incomplete), ("another whole group", self.whole)];
+        let numbers = [0, 7, 8, 9, 10, 11, 12, 13, 15, 16, 18].into_iter().map(|number: usize| (number.to_string(), self.numbers[number]));
+        let others = [
+            ("all records in use", self.full),
+            ("another incomplete group", self.incomplete),
+            ("another whole group", self.whole),
+            ("a unit longer", self.longer),
+            ("a unit shorter", self.shorter),
+        ];
         numbers.chain(others.into_iter().map(|(name, times)| (name.to_string(), times))).collect()
     }
 }
@@ -78,10 +89,12 @@ impl<'a> Scene<'a> {
         let n = (last - first + 1).max(matrix + rng.index(2 * matrix)).min(total);
         let (least, most) = ((last + 1).saturating_sub(n), first.min(total - n));
         let at = least + rng.index(most - least + 1);
-        let (l, d, p, k) = (capture.l as u64, capture.d as u64, capture.p as u64, rng.pick(&[128, 20, 3, 2, 1, 1]));
+        // P may be above the longest payload.
+        let p = rng.pick(&[capture.p, capture.p, capture.p + UNIT]).min(7 * UNIT);
+        let (l, d, k) = (capture.l as u64, capture.d as u64, rng.pick(&[128, 20, 3, 2, 1, 1]));
         let base = capture.first.wrapping_add(at as u16);
-        let window = Window { base, ssrc: rng.next() as u32, l, d, p, n: n as u64, k, present: 0, in_use: 0 };
-        let (n, k, p) = (n + GUARD, k as usize + GUARD, capture.p);
+        let window = Window { base, ssrc: rng.next() as u32, l, d, p: p as u64, n: n as u64, k, present: 0, in_use: 0 };
+        let (n, k) = (n + GUARD, k as usize + GUARD);
         let (media, parity) = (n * p, k * p);
         let size = Sizes { media, timestamps: n, lengths: n, marks: n, parity, records: k, out: 28 + p, slots: n * (12 + p), sizes: n };
         let pair = Pair::new(rng, size);
@@ -110,7 +123,7 @@ impl<'a> Scene<'a> {
     /// A call to both programs.
     fn run(&mut self, call: &Call) -> Result<Answer, String> {
         let size = self.pair.size();
-        let (n, k, p) = (self.window.n as usize, self.window.k as usize, self.capture.p);
+        let (n, k, p) = (self.window.n as usize, self.window.k as usize, self.window.p as usize);
         let lent = Sizes { media: n * p, timestamps: n, lengths: n, marks: n, parity: k * p, records: k, ..size };
         let answer = self.pair.run(self.window, call, lent, 0, &mut pair::Tally::default())?;
         self.window = answer.window;
@@ -138,29 +151,44 @@ impl<'a> Scene<'a> {
         for _ in 0..OTHERS {
             self.flip(28 + rng.index(end - 28), 1 << rng.below(8), tally)?;
         }
+        let mut longer = self.datagram.clone();
+        longer.resize(end + UNIT, 0);
+        let fits = longer.len() as u64 <= 28 + self.window.p;
+        self.compare(&longer, if fits { 18 } else { 9 }, tally).map_err(|text| format!("a unit longer: {text}"))?;
+        let shorter = self.datagram[..end - UNIT].to_vec();
+        let enough = shorter.len() > 28;
+        self.compare(&shorter, if enough { 18 } else { 9 }, tally).map_err(|text| format!("a unit shorter: {text}"))?;
+        tally.longer += u64::from(fits);
+        tally.shorter += u64::from(enough);
         self.flip(0, 0, tally)
     }
 
-    /// Offers the packet with a bit of a byte changed, and leaves the window as it was.
+    /// Offers the packet with a bit of a byte changed.
     fn flip(&mut self, at: usize, bit: u8, tally: &mut Tally) -> Result<(), String> {
-        let (before, window) = (self.pair.clone(), self.window);
         let mut datagram = self.datagram.clone();
         datagram[at] ^= bit;
         let wanted = self.wanted(&datagram, at, bit);
-        let missing = if wanted == 0 { self.missing(&datagram) } else { 0 };
-        let answer = self.run(&on_port(self.port, &datagram)).map_err(|text| format!("byte {at}, bit {bit:#04X}\n{text}"))?;
+        self.compare(&datagram, wanted, tally).map_err(|text| format!("byte {at}, bit {bit:#04X}: {text}"))?;
+        tally.flips += u64::from(bit != 0);
+        tally.whole += u64::from(wanted == 18 && matches!(at, 12 | 13));
+        Ok(())
+    }
+
+    /// Offers a packet that has to be answered with a number, and leaves the window as it was.
+    fn compare(&mut self, datagram: &[u8], wanted: u32, tally: &mut Tally) -> Result<(), String> {
+        let (before, window) = (self.pair.clone(), self.window);
+        let missing = if wanted == 0 { self.missing(datagram) } else { 0 };
+        let answer = self.run(&on_port(self.port, datagram))?;
         let right = match missing {
             0 => (answer.count, answer.spoilt, answer.window) == (0, 0, window) && self.pair.untouched(&before),
             1 => answer.count + answer.spoilt > 0,
             _ => (answer.count, answer.spoilt, answer.window) == (0, 0, Window { in_use: window.in_use + 1, ..window }),
         };
         if answer.number != wanted || !right {
-            return Err(format!("byte {at}, bit {bit:#04X}: {answer:?}, to be {wanted} with {missing} missing; before it {window:?}"));
+            return Err(format!("{answer:?}, to be {wanted} with {missing} missing; before it {window:?}"));
         }
-        tally.flips += u64::from(bit != 0);
         tally.numbers[wanted as usize] += 1;
         tally.incomplete += u64::from(missing > 0);
-        tally.whole += u64::from(wanted == 18 && matches!(at, 12 | 13));
         (self.pair, self.window) = (before, window);
         Ok(())
     }
@@ -200,7 +228,7 @@ impl<'a> Scene<'a> {
         let records = (0..self.window.k as usize).map(|r| (r, self.pair.record(r)));
         let mut in_hand = records.filter(|(_, record)| (record.in_use, record.stream + 2, record.snbase) == (1, self.port, snbase));
         if let Some((r, record)) = in_hand.next() {
-            let payload = &self.pair.parity()[r * self.capture.p..][..usize::from(record.payload_length)];
+            let payload = &self.pair.parity()[r * self.window.p as usize..][..usize::from(record.payload_length)];
             let fields = (record.timestamp_recovery, record.length_recovery);
             return if fields == (four(datagram, 20), two(datagram, 14)) && payload == &datagram[28..] { 14 } else { 15 };
         }

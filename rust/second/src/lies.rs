@@ -27,7 +27,7 @@ pub const KINDS: [&str; 26] = [
     "shorter by zeros alone",
     "several things",
     "with the SNBase of another group",
-    "what was sent, after a lie",
+    "what was sent, over a wrong packet",
     "11 for PT recovery",
     "taken",
     "taken with all records in use",

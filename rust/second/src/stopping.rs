@@ -4,7 +4,7 @@
 //! still in hand.
 
 use crate::face::Receiver;
-use crate::model::{Window, COLUMN, ROW};
+use crate::model::{two, Window, COLUMN, ROW};
 use crate::rng::Rng;
 use crate::wire::Stretch;
 
@@ -95,23 +95,28 @@ pub fn run(seed: u64, tally: &mut Tally) -> Result<(), String> {
 }
 
 /// Offers a list to a window whose base is at a position of the stretch, and judges what is left. Answers how many parity packets
-/// found their whole group present: such a one alone is answered 0 and alters nothing.
+/// found their whole group present: each is taken and alters nothing.
 fn judge(receiver: &mut Receiver, stretch: &Stretch, at: usize, list: &[Offer], expected: u32) -> Result<u64, String> {
     let mut compared = 0;
     for (step, (port, datagram, behind)) in list.iter().enumerate() {
         let before = receiver.window;
+        let whole = *port != 1 && !behind && {
+            let start = i64::from(two(datagram, 12).wrapping_sub(before.base));
+            stretch.members(port - 2, start).into_iter().all(|i| receiver.marks[i as usize] == 1)
+        };
         let answer = receiver.offer(*port, datagram);
         let risen = answer.window.present - before.present;
         let itself = u64::from(*port == 1 && answer.number == 0);
         let right = match answer.number {
+            0 if whole => answer.count == 0 && answer.window == before,
             0 => !behind && answer.count + itself == risen,
             13 => *behind && answer.window == before,
-            number => number == 14 && !behind && answer.count == 0 && risen == 0,
+            number => number == 14 && !behind && !whole && answer.count == 0 && answer.window == before,
         };
         if answer.spoilt != 0 || !right {
             return Err(format!("offer {step} on port {port} was answered {answer:?}, before it {before:?}"));
         }
-        compared += u64::from(*port != 1 && answer.number == 0 && answer.window == before);
+        compared += u64::from(whole);
     }
     let n = receiver.window.n as usize;
     let missing = (0..n).filter(|&i| receiver.marks[i] == 0).fold(0u32, |set, i| set | 1 << i);

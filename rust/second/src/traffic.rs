@@ -770,7 +770,7 @@ impl<'a> Play<'a> {
         let start = i64::from(u16::from_be_bytes([datagram[12], datagram[13]]).wrapping_sub(self.stretch.base) as i16);
         if self.stretch.fits(stream, start) {
             let sent = self.stretch.parity(stream, start, 0, 0, 0)[12..] == datagram[12..];
-            self.tally.lies.met("what was sent, after a lie", sent && answer.number == 18);
+            self.tally.lies.met("what was sent, over a wrong packet", sent && answer.number == 18);
             self.tally.lies.met("taken, and not what was sent", !sent && answer.number == 0);
         }
     }
