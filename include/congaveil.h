@@ -122,7 +122,7 @@
  *   At P 1,316, n 400, K 128 a media packet takes some 0.2 us and the worst call found,
  *   one late packet that rebuilds 100, some 45 us: docs/PERFORMANCE.md.
  *   A move goes with n x P, since all that stays moves down: at P 1,316, n 200 some 7 us by
- *   100 and some 4 us by 1. All calls together come to some 0.2 us a packet where a window
+ *   100 and some 4 us by 1. All calls together come to some 0.25 us a packet where a window
  *   moves by 100, and to some 4 us where it moves by 1.
  *
  * An endless stream (examples/endless.c, examples/card.c)

@@ -132,6 +132,16 @@ fn rebuilds_one(na: usize, stretch: Stretch) -> f64 {
     median(1001, || waiting.clone(), |r| assert_eq!(r.media(&late), taken(1)))
 }
 
+/// A row parity packet that finds its whole group present and is compared with it, and one that finds one missing and rebuilds it, each into
+/// a copy of the store made just before.
+fn compares(na: usize, stretch: fn(usize) -> Stretch, p: usize) -> (f64, f64) {
+    let (whole, _) = filled(stretch(p), na, 5, 100, 40, &|_| false);
+    let (but_one, stretch) = filled(stretch(p), na, 5, 100, 40, &|i| i == 0);
+    let row = parity(&stretch, na, 5, true, 0);
+    let compared = median(1001, || whole.clone(), |r| assert_eq!(r.row(&row), taken(0)));
+    (compared, median(1001, || but_one.clone(), |r| assert_eq!(r.row(&row), taken(1))))
+}
+
 /// A late packet that sets off `chain` rebuilds: every third packet is lost, and a row of four waits for each two neighbours.
 fn rebuilds_many(chain: usize, n: usize, k: usize, p: usize) -> f64 {
     let (mut waiting, stretch) = filled(Stretch::full(p), 4, 4, n, k, &|i| i % 3 == 0 && i <= 3 * chain);
@@ -439,6 +449,17 @@ fn main() {
     println!("\na media packet that rebuilds one other, n 100, K 40");
     for (na, p) in [(5, 1316), (10, 1316), (20, 1316), (10, 188)] {
         println!("  NA {na:2}, P {p:4}          {:7.0} ns", rebuilds_one(na, Stretch::full(p)));
+    }
+    println!("\na row parity packet that finds its whole group present, beside one that rebuilds one other, n 100, K 40");
+    for (na, p, how, stretch) in [
+        (5, 1316, "", Stretch::full as fn(usize) -> Stretch),
+        (10, 1316, "", Stretch::full),
+        (20, 1316, "", Stretch::full),
+        (10, 188, "", Stretch::full),
+        (10, 1316, ", one to seven transport packets", Stretch::mixed),
+    ] {
+        let (compared, rebuilt) = compares(na, stretch, p);
+        println!("  NA {na:2}, P {p:4}{how}   {compared:7.0} ns   rebuilt {rebuilt:7.0} ns   {:.2} times", compared / rebuilt);
     }
     println!("\na late media packet that sets off a chain of rebuilds, n 400, K 128, NA 4");
     for (chain, p) in [(10, 1316), (100, 1316), (100, 188)] {
