@@ -1,12 +1,12 @@
 -- Demand 2 (Demand2.antt), proved: an accepted offer is a run of the theory, whatever it carries, and what such a run leaves is known.
-use mathlib.Core.Path.{_≡_, refl, sym, ap, ap₂, _∙_, subst}
+use mathlib.Core.Path.{_≡_, refl, sym, ap, _∙_, subst}
 use mathlib.Core.Logic.{_⊎_, inl, inr}
 use mathlib.Core.Bool.{Bool, true, false, cond}
-use mathlib.Core.List.{List, [], _∷_, _++_, map, List·Memᴰ, List·Memᴰ·head, List·Memᴰ·tail, List·Memᴰ·eq-of-singleton}
-use Prim.Native.Nat.{ℕ, _+_, _^_, max, _<_, _≤_}
+use mathlib.Core.List.{List, [], _∷_, _++_, List·Memᴰ, List·Memᴰ·eq-of-singleton}
+use Prim.Native.Nat.{ℕ, _+_, _^_, _<_, _≤_}
 use native.Mathlib.Decide.{ℕ-discrete}
 use native.Mathlib.Omega.{arith}
-use lib.ListN.{length, drop}
+use lib.ListN.{drop}
 use lib.Dec.{eqb}
 use borrow.Author.Tests.{eqb-true}
 use Rattle.answer.specs.declared.Answer.the-variants.{Done, Refused}
@@ -18,7 +18,7 @@ use Rattle.window.specs.declared.Window.{Window}
 use Rattle.window.specs.Limits.{width}
 use Rattle.window.specs.Store.{Store, lengthAt}
 use Rattle.window.specs.Group.{position, group, isMissing}
-use Rattle.calls.specs.Content.{Content, xorContent, xorContents, contentAt, Recovery, longest, recoveryOver, fits}
+use Rattle.calls.specs.Content.{Content, xorContents, contentAt, Recovery, recoveryOver, fits}
 use Rattle.calls.specs.Datagram.{mediaPacket, parityPacket}
 use Rattle.calls.specs.Accept.{contentOf, recoveryOf}
 use Rattle.calls.specs.Call.{Outcome, Written, mediaOfferTests, parityOfferTests, offeredMedia, offeredParity, over, readTests, readOut, writeTests, parityOf, wroteParity}
@@ -26,16 +26,16 @@ use Rattle.calls.specs.Standing.{Standing}
 use Rattle.calls.specs.Passed.{media-passed, parity-passed, read-passed, write-passed}
 use Rattle.peel.specs.Group as Peel
 use Rattle.peel.specs.Peel as Theory
-use Rattle.guarantee.specs.Ranges.{any-none}
 use Rattle.guarantee.specs.Packets.{Whole, Packet, xored, zeros, packetOf, contentFrom, length-first, content-from, packet-content, packet-xor, packet-total, whole-xor, whole-xors}
 use Rattle.guarantee.specs.Lengths.{length-padded}
-use Rattle.guarantee.specs.View.{code, packetAt, view, group-lt, slot-present, slot-is, Good, content-whole, recovery-whole, mark-one}
+use Rattle.guarantee.specs.View.{code, packetAt, view, slot-present, slot-is, Good, content-whole, recovery-whole, mark-one}
 use Rattle.guarantee.specs.Order.{standing}
 use Rattle.guarantee.specs.Accepted.{Settled}
 use Rattle.guarantee.specs.Offers.{mediaSeen, paritySeen, media-kept, parity-kept, media-accepted, parity-accepted}
-use Rattle.guarantee.specs.Demand3.{Port, mediaPort, columnPort, rowPort, Offer, callOf, offered, Stretch, contentSent, recoverySent, markAt}
+use Rattle.guarantee.specs.Demand3.{Port, mediaPort, columnPort, rowPort, Offer, callOf, offered, markAt}
 use Rattle.guarantee.specs.Demand2.{Usable, in-hand, column-offered, row-offered, rebuiltBy, Due, stood, arrived, rebuilt, ClaimDue, ClaimStays, ClaimRead, ClaimWritten}
 use Rattle.guarantee.specs.Sent.{seenOn, seen, not-check}
+use Rattle.guarantee.specs.Kept.{recovery-agrees}
 
 -- ---- a call as moves of the theory
 
@@ -216,22 +216,6 @@ read-unaltered w t s number c out based ssrc-fits number-fits H e =
       written = refl;
     })
 
--- the exclusive-or and the longest of a list are those of what was sent, where each content is
-contents-same : (p : ℕ) (f h : ℕ → Content) (g : List ℕ) → ((j : ℕ) → List·Memᴰ j g → f j ≡ h j) → xorContents p f g ≡ xorContents p h g
-contents-same p f h [] e = refl
-contents-same p f h (j ∷ g) e = ap₂ xorContent (e j (List·Memᴰ·head refl)) (contents-same p f h g (λ i m. e i (List·Memᴰ·tail m)))
-
-longest-same : (f h : ℕ → ℕ) (g : List ℕ) → ((j : ℕ) → List·Memᴰ j g → f j ≡ h j) → longest (map f g) ≡ longest (map h g)
-longest-same f h [] e = refl
-longest-same f h (j ∷ g) e = ap₂ max (e j (List·Memᴰ·head refl)) (longest-same f h g (λ i m. e i (List·Memᴰ·tail m)))
-
--- so a group over an unaltered store has the recovery of what was sent
-recovery-same : (w : Window) (t : Stretch) (s : Store) (g : List ℕ) → ((j : ℕ) → List·Memᴰ j g → contentAt w s j ≡ contentSent w t j) → recoveryOver w s g ≡ recoverySent w t g
-recovery-same w t s g e =
-    let a = contents-same (w .p) (contentAt w s) (contentSent w t) g e in
-    let b = longest-same (lengthAt s) (λ i. length (t i .payload)) g (λ j m. ap (λ c. c .length) (e j m)) in
-    λ k. record { content = a k; size = b k }
-
 -- writing parity over an unaltered store
 pub written-unaltered : ClaimWritten
 unfolding wroteParity
@@ -241,8 +225,6 @@ written-unaltered w t s stream snbase c o out base-fits sequence-fits timestamp-
     (record { answer = Refused (first (writeTests w stream snbase s out)); window = w; out = out }) (first (writeTests w stream snbase s out)) c refl e in
     let q = write-passed w stream snbase s out z in
     let G = standing w (w .present) (w .«in_use») s (q .standing) .good in
-    let each : (j : ℕ) → List·Memᴰ j (group w stream snbase) → contentAt w s j ≡ contentSent w t j =
-    λ j m. let h = group-lt w stream snbase (q .in-window) j m in H .media j h (mark-one G j h (any-none (isMissing (s .marks)) (group w stream snbase) (q .whole) j m)) in
     rw z (record {
       datagram = parityOf w o stream snbase s;
       is = record {
@@ -254,7 +236,7 @@ written-unaltered w t s stream snbase c o out base-fits sequence-fits timestamp-
         ssrc-fits = ssrc-fits;
         permitted = q .permitted;
         in-window = q .in-window;
-        is = ap (parityPacket o stream (w .l) (w .d) snbase) (recovery-same w t s (group w stream snbase) each);
+        is = ap (parityPacket o stream (w .l) (w .d) snbase) (recovery-agrees w t s (λ i h n. H .media i h (mark-one G i h n)) stream snbase (q .in-window) (q .whole));
       };
       written = refl;
     })
