@@ -1,3 +1,5 @@
+#![tactic(auto)]
+
 // What a call answers: done, with its counts, or refused, with the number of document 01's table.
 ghost use Rattle.std.specs.Prelude.{◌≡◌};
 ghost use Rattle.answer.specs.Number.{number_of, count_of, spoilt_of};

@@ -1,3 +1,5 @@
+#![tactic(auto)]
+
 // Capture files (request 2): what the calls on them take and give back. The format, the calls as definitions and what they promise
 // are in specs/; reading is in the crate `load`, writing in `save`.
 

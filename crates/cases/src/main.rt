@@ -1,3 +1,5 @@
+#![tactic(auto)]
+
 // Bench cases, refusals and traps over the public calls: a table of steps for each, run on a bench of its own.
 mod bench;
 mod script;

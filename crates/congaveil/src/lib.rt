@@ -1,3 +1,5 @@
+#![tactic(auto)]
+
 // The library for cards in C and Rust: the calls of document 01 over what a card lends, its records a table; capture files; and a
 // sender.
 // Every call ends on every input; a refused one gives back its number and changes nothing that was lent.

@@ -1,3 +1,5 @@
+#![tactic(auto)]
+
 // The night at ten past three: a burst across the wrap of the numbers, and what the parity brings back.
 mod side;
 

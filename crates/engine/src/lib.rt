@@ -1,3 +1,5 @@
+#![tactic(auto)]
+
 // Settling: parity in hand rebuilds until none of it has exactly one packet missing. Whether none, one or more of its group are
 // missing is noted in each row, so a round looks at the rows alone, and again at the groups that have the rebuilt packet.
 ghost use Rattle.std.specs.Prelude.{◌≡◌, true, cond, ℕ, ◌+◌, ◌*◌, ◌-◌, ◌≤◌, ◌<◌, eqb, length};

@@ -1,3 +1,5 @@
+#![tactic(auto)]
+
 // What stands between the exported calls and the receiver: a hand is gathered of the lent table, a method of the receiver works
 // on it, and its rows go back where they changed; the answer becomes document 01's number and count.
 ghost use Rattle.std.specs.Prelude.{◌≡◌, cond, List, ◌+◌, ◌*◌, ◌≤◌, leb, length};

@@ -1,3 +1,5 @@
+#![tactic(auto)]
+
 // A group of parity: its members, each by one more wrapping add of Offset; whether none, one or more of them are missing; what is
 // held of them added up; and the one missing packet rebuilt from it.
 ghost use Rattle.std.specs.Prelude.{◌≡◌, true, false, ◌&&◌, List, map, ℕ, max, ◌+◌, ◌*◌, ◌≤◌, ◌<◌, eqb, length, get_or, drop, take};

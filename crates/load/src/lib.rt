@@ -1,3 +1,5 @@
+#![tactic(auto)]
+
 // Reads a capture file, in pieces of any length or at once, and gives its header and its entries. No call asks anything of what it is
 // lent; what is no capture file is refused with 21.
 ghost use Rattle.std.specs.Prelude.{◌≡◌, ◌+◌, ◌≤◌, ◌<◌};

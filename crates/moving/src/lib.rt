@@ -1,3 +1,5 @@
+#![tactic(auto)]
+
 // Moving the window on: the packets that leave are written out, parity with a member among them is released, and the other
 // positions move down. Each byte is copied once, a block at a time.
 ghost use Rattle.std.specs.Prelude.{◌≡◌, true, cond, ◌||◌, List, ℕ, ◌+◌, ◌*◌, ◌-◌, ◌≤◌, ◌<◌, eqb, ltb, length, get_or, drop};

@@ -1,3 +1,5 @@
+#![tactic(auto)]
+
 // Offers: a media or a parity datagram taken in, or refused, over the rows of a hand.
 ghost use Rattle.std.specs.Prelude.{◌≡◌, true, false, List, [], ◌∷◌, ℕ, ◌+◌, ◌*◌, ◌≤◌, ◌<◌, length, get_or};
 ghost use Rattle.answer.specs.declared.Answer.TheVariants.{Done, Refused};

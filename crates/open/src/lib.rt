@@ -1,3 +1,5 @@
+#![tactic(auto)]
+
 // Opening a window: its numbers are tested, and all of the lent store that it needs is set to zero; the records, which are not
 // in sight here, are set free by the caller.
 ghost use Rattle.std.specs.Prelude.{◌≡◌, List, [], ◌∷◌, ◌++◌, ◌*◌, ◌≤◌, length};

@@ -1,3 +1,5 @@
+#![tactic(auto)]
+
 // Whether a window value and the store that it is lent are in order: refusals 1 to 5, which every call but opening meets first.
 // The records are looked at once, in the rows of a hand; whether none, one or more of each row's group are missing is noted there.
 ghost use Rattle.std.specs.Prelude.{◌≡◌, true, false, cond, ◌+◌, ◌<◌, ◌≤◌, ltb, length};

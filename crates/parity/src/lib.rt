@@ -1,3 +1,5 @@
+#![tactic(auto)]
+
 // The exclusive-or over rows of the store: of timestamps, of lengths, and of payloads. Where each row is P bytes long, as most senders have it,
 // payloads are taken ten at a pass, then four, then one; else one at a time, each at its own length.
 ghost use Rattle.std.specs.Prelude.{◌≡◌, ◌⊎◌, true, map, ℕ, ◌+◌, ◌*◌, ◌≤◌, ◌<◌, length, get_or, take, drop, replicate};

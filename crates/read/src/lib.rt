@@ -1,3 +1,5 @@
+#![tactic(auto)]
+
 // Reading out: a packet that the window holds as a media datagram, and a group that it holds whole as a parity datagram.
 // The records, which only refusal 5 looks at, are the m rows of a hand; the lent table has `len` of them.
 ghost use Rattle.std.specs.Prelude.{◌≡◌, List, ◌+◌, ◌≤◌, ltb, length};

@@ -1,3 +1,5 @@
+#![tactic(auto)]
+
 // The receiver: a window value with the calls of document 01 as methods. Each takes the value and hands the next one back
 // beside the answer; a call ends on every input, and a refused one changes nothing.
 //

@@ -1,3 +1,5 @@
+#![tactic(auto)]
+
 // RTP and parity headers: every field read and written, big-endian, and what is wrong with a datagram by itself.
 // Reading asks nothing of a datagram: a byte past its end reads as 0.
 ghost use Rattle.std.specs.Prelude.{◌≡◌, [], ◌∷◌, ◌++◌, ◌+◌, ◌/◌, ◌%◌, ◌<◌, ◌≤◌, eqb, length};

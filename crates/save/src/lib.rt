@@ -1,3 +1,5 @@
+#![tactic(auto)]
+
 // Writes a capture file: header, table and bodies at the front of a lent output. What is no proper content is refused with 21, and
 // then a short output with 4; nothing is altered by a refusal.
 ghost use Rattle.std.specs.Prelude.{◌≡◌, ◌+◌, ◌≤◌, length};

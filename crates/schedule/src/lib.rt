@@ -1,3 +1,5 @@
+#![tactic(auto)]
+
 // When a sender's parity goes out (request 4): which column goes out with a packet, which one takes it in, and the one
 // bounded counter by which the sender knows. The arrangements as definitions, and that they are exact, are in specs/.
 ghost use Rattle.std.specs.Prelude.{◌≡◌, ◌+◌, ◌*◌, ◌-◌, ◌<◌, ◌≤◌};

@@ -1,3 +1,5 @@
+#![tactic(auto)]
+
 // A sender that keeps up (request 4): media datagrams come in one by one, and with each the row and the column parity that is due
 // goes out. It keeps running sums in lent room, two for each column and one for the row, and never the matrix. Every call ends on
 // every input; a refused one changes nothing.

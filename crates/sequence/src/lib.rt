@@ -1,3 +1,5 @@
+#![tactic(auto)]
+
 // RTP sequence numbers: 16 bits that wrap from 65,535 to 0.
 ghost use Rattle.std.specs.Prelude.{◌≡◌, ◌+◌, ◌%◌, ◌^◌};
 ghost use Rattle.sequence.specs.Wrap.{ahead, member, number_at};

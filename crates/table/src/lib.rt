@@ -1,3 +1,5 @@
+#![tactic(auto)]
+
 // The records in use, each with its slot and a note of what the last look at its group found: one slice of words, four to a row, seen through
 // one view, `hand`.
 ghost use Rattle.std.specs.Prelude.{◌≡◌, true, false, List, [], ◌+◌, ◌/◌, ◌%◌, ◌<◌, ◌≤◌, length, set, take};

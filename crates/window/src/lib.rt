@@ -1,3 +1,5 @@
+#![tactic(auto)]
+
 // The window value: its set_up numbers, its limits, what the lent store needs, and whether that store is in order.
 ghost use Rattle.std.specs.Prelude.{◌≡◌, true, cond, not, ◌&&◌, ◌||◌, ◌+◌, ◌*◌, ◌<◌, ◌≤◌, eqb, leb, ltb, length, get_or};
 ghost use Rattle.answer.specs.First.{first};
