@@ -4,7 +4,7 @@
 ghost use Rattle.std.specs.Prelude.{◌≡◌};
 ghost use Rattle.answer.specs.Number.{number_of, count_of, spoilt_of};
 
-#[derive(Drop)]
+#[derive(Clone, Copy)]
 pub enum Answer {
     // Done; the first count is of packets rebuilt by an offer, or of bytes written, the second of parity packets that an offer
     // released as spoilt.

@@ -5,7 +5,7 @@
 
 // Where the reading of a file stands, as the numbers that a card keeps between two pieces. A reading starts with zeros.
 #[repr(C)]
-#[derive(Drop)]
+#[derive(Clone, Copy)]
 pub struct Reader {
     pub stage: u32,
     pub left: u32,
@@ -17,7 +17,7 @@ pub struct Reader {
 
 // 0 where the bytes read so far are a whole capture file, else 21; and where the reading stands.
 #[repr(C)]
-#[derive(Drop)]
+#[derive(Clone, Copy)]
 pub struct Reading {
     pub number: u32,
     pub reader: Reader,
@@ -25,7 +25,7 @@ pub struct Reading {
 
 // What a header says: 0, the base and the other numbers, or 21 and zeros.
 #[repr(C)]
-#[derive(Drop)]
+#[derive(Clone, Copy)]
 pub struct Header {
     pub number: u32,
     pub base: u16,
@@ -39,7 +39,7 @@ pub struct Header {
 
 // What a line of the table says: 0, the port of the entry, where its body starts in the file and how long it is, or 21 and zeros.
 #[repr(C)]
-#[derive(Drop)]
+#[derive(Clone, Copy)]
 pub struct Line {
     pub number: u32,
     pub port: u8,
@@ -49,7 +49,7 @@ pub struct Line {
 
 // 0 and how many bytes were written, or the refusal and 0.
 #[repr(C)]
-#[derive(Drop)]
+#[derive(Clone, Copy)]
 pub struct Written {
     pub number: u32,
     pub count: usize,
@@ -57,7 +57,7 @@ pub struct Written {
 
 // Where a file is read: bytes of the header and the count so far; in a line, the lines after it, where its body
 // must start, all lengths before it, bytes of it read, its length so far; bytes of bodies to come; refused.
-#[derive(Drop)]
+#[derive(Clone, Copy)]
 pub enum Stage {
     Head(u32, u32),
     Line(u32, u32, u32, u32, u32),

@@ -101,7 +101,7 @@ fn row_rank(base: u16, rows: &[u32], i: usize) -> usize
 }
 
 // The best row so far: none where `at` is not below m.
-#[derive(Drop)]
+#[derive(Clone, Copy)]
 pub struct Best {
     pub at: usize,
     pub rank: usize,
@@ -205,7 +205,7 @@ fn release_all(w: Window, parity: &mut [u8], rows: &mut [u32], m: usize) -> Wind
 // ---- rounds
 
 // The window value after rounds, how many packets they rebuilt, and how many rows they found spoilt.
-#[derive(Drop)]
+#[derive(Clone, Copy)]
 pub struct Round {
     pub window: Window,
     pub rebuilt: usize,

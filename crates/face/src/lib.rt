@@ -18,7 +18,7 @@ use window::Window;
 
 // An answer by document 01's number and counts, and the next window value.
 #[repr(C)]
-#[derive(Drop)]
+#[derive(Clone, Copy)]
 pub struct Reply {
     pub number: u32,
     pub count: usize,
@@ -27,7 +27,7 @@ pub struct Reply {
 }
 
 // What an offer leaves: the reply, and how many rows go back into the table.
-#[derive(Drop)]
+#[derive(Clone, Copy)]
 pub struct Finished {
     pub reply: Reply,
     pub rows: usize,

@@ -82,7 +82,7 @@ pub fn look(w: Window, marks: &[u8], stream: u8, snbase: u16) -> Look
 // ---- the members that are held
 
 // Positions of a group: the first n of rows.
-#[derive(Drop)]
+#[derive(Clone, Copy)]
 pub struct Members {
     pub rows: [usize; 20],
     pub n: usize,
@@ -120,7 +120,7 @@ fn members_held(w: Window, stream: u8, snbase: u16, marks: &[u8]) -> Members
 }
 
 // The timestamp and the length of an exclusive-or.
-#[derive(Drop)]
+#[derive(Clone, Copy)]
 pub struct Sums {
     pub timestamp: u32,
     pub length: u16,
@@ -158,7 +158,7 @@ fn add_up(
 // ---- the parity of a group
 
 // What the lengths of some rows come to: their exclusive-or, the longest of them, and whether each is p.
-#[derive(Drop)]
+#[derive(Clone, Copy)]
 pub struct Measured {
     pub all: u16,
     pub most: u16,
@@ -195,7 +195,7 @@ fn larger(a: u16, b: u16) -> u16
 }
 
 // The timestamp and the length of an exclusive-or, and how long its payload is.
-#[derive(Drop)]
+#[derive(Clone, Copy)]
 pub struct Laid {
     pub timestamp: u32,
     pub length: u16,

@@ -220,7 +220,7 @@ fn release_behind(w: Window, by: usize, parity: &mut [u8], rows: &mut [u32], m: 
 // ---- the call
 
 // What a move gives back: the answer and the next window value, and whether the records may differ from what they were.
-#[derive(Drop)]
+#[derive(Clone, Copy)]
 pub struct Moved {
     pub answer: Answer,
     pub window: Window,

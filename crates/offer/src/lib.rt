@@ -33,7 +33,7 @@ use window::{Look, Record, Sizes, Window};
 
 // What an offer gives back: the answer and the next window value; whether the records differ from what they were; and the
 // record that is still to go into the hand, if one is held.
-#[derive(Drop)]
+#[derive(Clone, Copy)]
 pub struct Offered {
     pub answer: Answer,
     pub window: Window,
@@ -215,7 +215,7 @@ fn any_holds(rows: &[u32], m: usize, stream: u8, snbase: u16) -> bool
 }
 
 // Row i holds the group of a parity datagram with the same recovery.
-fn row_same_lem(
+fn row_same(
     w: Window,
     stream: u8,
     datagram: &[u8],
@@ -252,7 +252,7 @@ fn any_same(w: Window, stream: u8, datagram: &[u8], parity: &[u8], rows: &[u32],
     let mut found = false;
     let mut i = 0;
     while i < m {
-        found = found | row_same_lem(w, stream, datagram, parity, rows, i);
+        found = found | row_same(w, stream, datagram, parity, rows, i);
         i += 1;
     }
     found
@@ -293,7 +293,7 @@ fn contradicts(
 }
 
 // The first of refusals 13 to 15, 18 and 16 that applies to a parity datagram, or 0, and what a look at its group finds.
-#[derive(Drop)]
+#[derive(Clone, Copy)]
 pub struct Placed {
     pub fault: u8,
     pub found: Look,

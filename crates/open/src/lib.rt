@@ -14,7 +14,7 @@ use answer::Answer;
 use window::{Sizes, Window};
 
 // What opening gives back; the window of a refusal is all zeros. The caller has to set free the first `records` of the table.
-#[derive(Drop)]
+#[derive(Clone, Copy)]
 pub struct Opened {
     pub answer: Answer,
     pub window: Window,

@@ -35,7 +35,7 @@ fn repeats(rows: &[u32], i: usize, v: Record, fresh: bool) -> bool
 }
 
 // What the test of order finds at a row: whether it is free or good, 1 if it is in use, and the note of a look at its group.
-#[derive(Drop)]
+#[derive(Clone, Copy)]
 pub struct Looked {
     pub good: bool,
     pub used: usize,
@@ -91,7 +91,7 @@ fn look_at(w: Window, marks: &[u8], rows: &[u32], i: usize, fresh: bool) -> Look
 }
 
 // Whether every row is free or good, and how many are in use.
-#[derive(Drop)]
+#[derive(Clone, Copy)]
 pub struct Found {
     pub good: bool,
     pub used: usize,

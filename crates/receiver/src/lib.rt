@@ -19,13 +19,13 @@ use answer::Answer;
 use window::Window;
 
 // A window value.
-#[derive(Drop)]
+#[derive(Clone, Copy)]
 pub struct Receiver {
     pub window: Window,
 }
 
 // The answer, the next window value, how many rows the hand has now, and whether the records differ from what they were.
-#[derive(Drop)]
+#[derive(Clone, Copy)]
 pub struct Step {
     pub answer: Answer,
     pub receiver: Receiver,
@@ -34,7 +34,7 @@ pub struct Step {
 }
 
 // The answer to an opening, the window value, and how many records of the table are to be set free.
-#[derive(Drop)]
+#[derive(Clone, Copy)]
 pub struct Opening {
     pub answer: Answer,
     pub receiver: Receiver,

@@ -8,7 +8,7 @@ ghost use Rattle.schedule.specs.Exact.{cyc};
 ghost use Rattle.schedule.specs.Numbers.{Small, leaving_at, joining_at};
 
 // The two arrangements of columns that senders have.
-#[derive(Drop)]
+#[derive(Clone, Copy)]
 pub enum Arrangement {
     Aligned,
     Staggered,
@@ -18,7 +18,7 @@ pub enum Arrangement {
 pub const MATRICES: usize = 3;
 
 // Whether a column goes out with a packet, in which slot its sum stands, and how many packets before this one it starts.
-#[derive(Drop)]
+#[derive(Clone, Copy)]
 pub struct Leaving {
     pub sends: bool,
     pub slot: usize,
@@ -26,7 +26,7 @@ pub struct Leaving {
 }
 
 // The slot of the column that takes a packet in, and whether the packet is its first.
-#[derive(Drop)]
+#[derive(Clone, Copy)]
 pub struct Joining {
     pub slot: usize,
     pub first: bool,

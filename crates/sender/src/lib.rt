@@ -19,7 +19,7 @@ ghost use Rattle.sender.specs.Ready.{short_by, open_by, standing_by, out_of_turn
 
 // A sender's value: its set_up numbers, and where it stands.
 #[repr(C)]
-#[derive(Drop)]
+#[derive(Clone, Copy)]
 pub struct Sender {
     // number of the first packet
     pub first: u16,
@@ -38,7 +38,7 @@ pub struct Sender {
 
 // What a parity packet takes from the caller.
 #[repr(C)]
-#[derive(Drop)]
+#[derive(Clone, Copy)]
 pub struct Outer {
     pub sequence: u16,
     pub timestamp: u32,
@@ -47,7 +47,7 @@ pub struct Outer {
 
 // 0, how many bytes were written to the row and to the column output, and the next sender value; or the refusal, with none written.
 #[repr(C)]
-#[derive(Drop)]
+#[derive(Clone, Copy)]
 pub struct Sent {
     pub number: u32,
     pub row: usize,

@@ -28,7 +28,7 @@ pub const MOST_RECORDS: usize = 128;
 pub const LEAST_MISSING: usize = 2;
 
 #[repr(C)]
-#[derive(Drop)]
+#[derive(Clone, Copy)]
 pub struct Window {
     // sequence number of position 0
     pub base: u16,
@@ -49,7 +49,7 @@ pub struct Window {
 }
 
 // Elements of each part of the lent store.
-#[derive(Drop)]
+#[derive(Clone, Copy)]
 pub struct Sizes {
     pub media: usize,
     pub timestamps: usize,
@@ -62,7 +62,7 @@ pub struct Sizes {
 // A parity packet in hand: its stream (0 a column, 1 a row), in-use mark, SNBase, timestamp and length recovery and the length
 // of its own payload, in twelve bytes with no gap. Its payload stands at the same index of the parity bytes.
 #[repr(C)]
-#[derive(Drop)]
+#[derive(Clone, Copy)]
 pub struct Record {
     pub stream: u8,
     pub in_use: u8,
@@ -88,7 +88,7 @@ pub fn free_record() -> Record
 
 // What a look at the members of a group finds, in their order and up to the second that is missing; the last number is how
 // many members it visited.
-#[derive(Drop)]
+#[derive(Clone, Copy)]
 pub enum Look {
     // none is missing
     None(usize),
@@ -203,7 +203,7 @@ fn block_end(at: usize, n: usize) -> usize
 }
 
 // Of a block of marks: how many are 1, and all of them joined bit by bit, which is 0 or 1 where each mark is.
-#[derive(Drop)]
+#[derive(Clone, Copy)]
 pub struct Ones {
     pub ones: u8,
     pub all: u8,
@@ -228,7 +228,7 @@ fn ones_between(marks: &[u8], from: usize, to: usize) -> Ones
 }
 
 // Of a window's marks: how many are 1, and whether each is 0 or 1.
-#[derive(Drop)]
+#[derive(Clone, Copy)]
 pub struct Counted {
     pub ones: usize,
     pub good: bool,

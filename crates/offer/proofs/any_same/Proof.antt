@@ -35,7 +35,7 @@ loop-less c = search rules
 loop-again : tie.Need-loop-preserved invariant-loop decreases-loop
 loop-again c =
     let the-loop = c.before.before.loop in
-    let the-row-same = c.row_same_lem in
+    let the-row-same = c.row_same in
     let the-args = c.before.before.before.before.before.before.args in
     (omega arith, ap (λ (t : Bool). the-loop.found || t) the-row-same.ensures ∙ turn-any (row_same the-args.w.p the-args.parity.now (hand the-args.rows.now) the-args.stream the-args.datagram.now) the-loop.i the-loop.found the-loop.invariant.1)
 

@@ -1,4 +1,4 @@
--- `offer::row_same_lem` meets its contract: each return by the tests that led there. Assumes nothing.
+-- `offer::row_same` meets its contract: each return by the tests that led there. Assumes nothing.
 use mathlib.Core.Path.{◌≡◌, refl, sym, ap, ◌∙◌}
 use mathlib.Core.Bool.{Bool, true, false, ◌&&◌}
 use mathlib.Core.List.{List}
@@ -21,8 +21,8 @@ use Rattle.offer.specs.Rows.{row_holds}
 use Rattle.offer.proofs.Tests.{rest-same}
 use native.Mathlib.Omega.{arith}
 use borrow.Author.Rules.{rules}
-use Rattle.offer.proofs.row_same_lem.Statement.{statement}
-use Rattle.offer.proofs.row_same_lem.Tie as tie
+use Rattle.offer.proofs.row_same.Statement.{statement}
+use Rattle.offer.proofs.row_same.Tie as tie
 
 -- what a record at a slot carries
 abbrev kept : (p : ℕ) → (parity : List ℕ) → Record → ℕ → Recovery
