@@ -101,6 +101,7 @@ units_upto p most other n e h =
 
 -- the longest is no shorter than any of them
 pub longest-le : (f : ℕ → ℕ) (g : List ℕ) (i : ℕ) → Memᴰ i g → f i ≤ longest (map f g)
+longest-le f [] i m = elim m [ ]
 longest-le f (j ∷ g) i (Memᴰ.head e) = rw e (le-max_left (f j) (longest (map f g)))
 longest-le f (j ∷ g) i (Memᴰ.tail m) = let z = longest-le f g i m in omega arith
 

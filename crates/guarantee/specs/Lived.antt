@@ -145,8 +145,8 @@ module _ {w : Window} {feed : Feed} (F : Feeds w.p feed) (x : Life) (now : Lived
     length-gone = length-append x.gone slots ∙ ap (λ n. length x.gone + n) length-slots
 
     -- the base moved on, from the opening's by all that left
-    moved_on : SameSetUp next.window (advanced (length (x.gone ++ slots)) 0 w)
-    moved_on = subst (λ n. SameSetUp next.window (advanced n 0 w)) (sym length-gone)
+    base_moved : SameSetUp next.window (advanced (length (x.gone ++ slots)) 0 w)
+    base_moved = subst (λ n. SameSetUp next.window (advanced n 0 w)) (sym length-gone)
         (set_up_then next.window (advanced by 0 x.window) (advanced (length x.gone + by) 0 w) (moved-set-up now.start by hb out sizes) (advanced_twice w x.window (length x.gone) by now.set_up))
 
     -- the stretch that the window stands over moved on
@@ -159,7 +159,7 @@ module _ {w : Window} {feed : Feed} (F : Feeds w.p feed) (x : Life) (now : Lived
     -- and it is a start for that
     moved-starts : Start next.window (onward (length (x.gone ++ slots)) feed) next.store
     moved-starts = subst (λ f. Start next.window f next.store) moved-over
-        (moved-start now.start by hb out sizes (feeds_fill F next.window (ap (λ v. v.p) moved_on) (λ i. length x.gone + (by + i))))
+        (moved-start now.start by hb out sizes (feeds_fill F next.window (ap (λ v. v.p) base_moved) (λ i. length x.gone + (by + i))))
 
     -- what leaves is what was sent, by the opening's base
     slot-sent : (i : ℕ) → i < by → (get_or slots i [] ≡ []) ⊎ (get_or slots i [] ≡ media_packet (number_at width w.base (length x.gone + i)) w.ssrc (content_sent w feed (length x.gone + i)))
@@ -183,7 +183,7 @@ module _ {w : Window} {feed : Feed} (F : Feeds w.p feed) (x : Life) (now : Lived
 
     -- so the life goes on
     lived-done : Lived w feed (record { window = next.window; store = next.store; gone = x.gone ++ slots })
-    lived-done = lived (record { window = next.window; store = next.store; gone = x.gone ++ slots }) moved_on moved-starts slots-sent
+    lived-done = lived (record { window = next.window; store = next.store; gone = x.gone ++ slots }) base_moved moved-starts slots-sent
 
   -- after any move
   lived-move : (by : ℕ) (out sizes : List ℕ) → Lived w feed (after_one x (move by out sizes))

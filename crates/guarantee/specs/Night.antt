@@ -114,6 +114,7 @@ given = record {
     each o (Memᴰ.tail (Memᴰ.tail (Memᴰ.tail (Memᴰ.head e)))) = rw e parity-unaltered
     each o (Memᴰ.tail (Memᴰ.tail (Memᴰ.tail (Memᴰ.tail (Memᴰ.head e))))) = rw e (media-unaltered 8 (omega arith))
     each o (Memᴰ.tail (Memᴰ.tail (Memᴰ.tail (Memᴰ.tail (Memᴰ.tail (Memᴰ.head e)))))) = rw e (media-unaltered 4 (omega arith))
+    each o (Memᴰ.tail (Memᴰ.tail (Memᴰ.tail (Memᴰ.tail (Memᴰ.tail (Memᴰ.tail m)))))) = elim m [ ]
 
 -- and what it says holds
 after : Demand3 window stretch (names_of offers) (answers (opened window lent) offers) morning.store

@@ -103,13 +103,13 @@ module _ {w : Window} (L : Limits w) {a u : ℕ} {s : Store} (G : Good w a u s) 
 
   module _ (r : ℕ) (hr : r < rows w) (e : is_in_use w s r ≡ true) where
     -- the group of a record in use moves down
-    group_at : group_at w s r ≡ map (λ i. by + i) (group_at (advanced by 0 w) (shifted w by s) r)
-    group_at = onward-all width w.base by (omega (arith, L.based)) (members width (record_at s r).snbase (offset_of (record_at s r).stream w.l) (na_of (record_at s r).stream w.l w.d)) (clear r hr e)
+    group_moved : group_at w s r ≡ map (λ i. by + i) (group_at (advanced by 0 w) (shifted w by s) r)
+    group_moved = onward-all width w.base by (omega (arith, L.based)) (members width (record_at s r).snbase (offset_of (record_at s r).stream w.l) (na_of (record_at s r).stream w.l w.d)) (clear r hr e)
 
     -- no member was among the new positions
     member-old : (i : ℕ) → Memᴰ i (group_at (advanced by 0 w) (shifted w by s) r) → i < w.n - by
     member-old i m =
-        let z = ap (all (λ i. ltb i w.n)) (sym group_at) ∙ (G.shaped r hr e).within in
+        let z = ap (all (λ i. ltb i w.n)) (sym group_moved) ∙ (G.shaped r hr e).within in
         let y = ltb-true (by + i) w.n (all_of (λ i. ltb (by + i) w.n) (group_at (advanced by 0 w) (shifted w by s) r) (sym (all_map (λ i. ltb i w.n) (λ i. by + i) (group_at (advanced by 0 w) (shifted w by s) r)) ∙ z) i m) in
         omega arith
 
@@ -118,11 +118,11 @@ module _ {w : Window} (L : Limits w) {a u : ℕ} {s : Store} (G : Good w a u s) 
     inside-at = of-all (λ i. ltb i w.n) (group_at (advanced by 0 w) (shifted w by s) r) (λ i m. lt-ltb i w.n (omega (arith, member-old i m)))
 
     -- and as many of it are missing
-    missing_at : length (missing_at (advanced by 0 w) (shifted w by s) r) ≡ length (missing_at w s r)
-    missing_at =
+    missing_moved : length (missing_at (advanced by 0 w) (shifted w by s) r) ≡ length (missing_at w s r)
+    missing_moved =
         let g = group_at (advanced by 0 w) (shifted w by s) r in
         ap length (keep-ext (is_missing (shifted w by s).marks) (λ i. is_missing s.marks (by + i)) g (λ i m. ap (λ k. eqb k 0) (mark-at i (member-old i m))))
-        ∙ sym (count_map (is_missing s.marks) (λ i. by + i) g) ∙ ap (λ l. length (missing s.marks l)) (sym group_at)
+        ∙ sym (count_map (is_missing s.marks) (λ i. by + i) g) ∙ ap (λ l. length (missing s.marks l)) (sym group_moved)
 
   -- those present are those that were, but for what left
   present-at : count (is_present (shifted w by s).marks) (up_to w.n) ≡ a - count (is_present s.marks) (up_to by)
@@ -169,11 +169,11 @@ module _ {w : Window} (L : Limits w) {a u : ℕ} {s : Store} (G : Good w a u s) 
 
   -- its parity in hand waits for as many
   pub onward-waits : {m : ℕ} → Missing m w s → Missing m (advanced by 0 w) (shifted w by s)
-  onward-waits K = record { least = λ r h e. let z = K.least r h e in omega (arith, missing_at r h e) }
+  onward-waits K = record { least = λ r h e. let z = K.least r h e in omega (arith, missing_moved r h e) }
 
   -- and what it holds is unaltered for the stretch moved on
   pub onward-holds : {t : Stretch} → Holds w t s → Holds (advanced by 0 w) (onward by t) (shifted w by s)
   onward-holds {t} H = record {
     media = λ i h e. let l = present-moved i h (λ z. omega (arith, e)) in content-at i l ∙ H.media (by + i) (omega arith) (sym (mark-at i l) ∙ e);
-    parity = λ r h e. H.parity r h e ∙ ap (recovery_sent w t) (group_at r h e) ∙ recovery_onward w t by (group_at (advanced by 0 w) (shifted w by s) r);
+    parity = λ r h e. H.parity r h e ∙ ap (recovery_sent w t) (group_moved r h e) ∙ recovery_onward w t by (group_at (advanced by 0 w) (shifted w by s) r);
   }

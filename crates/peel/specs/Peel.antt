@@ -258,7 +258,7 @@ module _ {K C X : Type 0} (P : Code K C X) where
   -- so a run keeps it, with its offers received
   pub sound-runs : {R : Set (Offer K C X)} {os : List (Offer K C X)} {s t : View K C X} → Sound R s → Runs s os t → Sound (Plus R os) t
   sound-runs v done = sound-mono (λ p. inl) v
-  sound-runs {R} v (took {p} {os} a r) = sound-mono (plus-cons R p os) (sound-runs (sound-take v a) r)
+  sound-runs {R} v (took {p} {os} a r) = sound-mono (plus-cons R p os) (sound-runs {R = Plus R (p ∷ [])} (sound-take v a) r)
   sound-runs v (made a r) = sound-runs (sound-step v a) r
 
   -- ---- unaltered offers
@@ -333,5 +333,5 @@ module _ {K C X : Type 0} (P : Code K C X) where
     pub inv-runs : {R : Set (Offer K C X)} {os : List (Offer K C X)} → ((p : Offer K C X) → Plus R os p → Unaltered sent p)
         → {s t : View K C X} → Inv R s → Runs s os t → Inv (Plus R os) t
     inv-runs ok v done = inv-same (λ p. inl) (λ p m. ⊎_elim (λ a. a) (λ a. absurd (mathlib.Core.List.Memᴰ.not-nil a)) m) v
-    inv-runs {R} ok v (took {p} {os} a r) = inv-same (plus-cons R p os) (cons-plus R p os) (inv-runs (λ q m. ok q (plus-cons R p os q m)) (inv-take v a) r)
+    inv-runs {R} ok v (took {p} {os} a r) = inv-same (plus-cons R p os) (cons-plus R p os) (inv-runs {R = Plus R (p ∷ [])} (λ q m. ok q (plus-cons R p os q m)) (inv-take v a) r)
     inv-runs ok v (made a r) = inv-runs ok (inv-step (λ p m. ok p (inl m)) v a) r

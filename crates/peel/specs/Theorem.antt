@@ -71,6 +71,7 @@ module _ {K C X : Type 0} (P : Code K C X) where
     where
       known : (p : Offer K C X) → Plus (Has s) [] p → Unaltered P sent p
       known p (inl m) = ok p m
+      known p (inr m) = elim m [ ]
 
       inv : {z : View K C X} → Steps P s z → Inv P (Plus (Has s) []) z
       inv a = run-inv sent known (steps-run P a)

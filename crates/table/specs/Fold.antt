@@ -27,10 +27,10 @@ module _ {X : Type 0} (table : X → List Record) (step : ℕ → X → X) (stil
   kept (suc n) q x f = keeps n q (below step n x) (kept n q x f)
 
   -- the steps from q on are those at the slots from q on
-  through : {k q : ℕ} (x : X) {hs : List Row} → Apart (table x) k q hs → below step k x ≡ rows step hs (length hs) (below step q x)
+  through : {k : ℕ} (x : X) {q : ℕ} {hs : List Row} → Apart (table x) k q hs → below step k x ≡ rows step hs (length hs) (below step q x)
   through x done = refl
-  through {k} {q} x {hs} (free f d) = through x d ∙ ap (rows step hs (length hs)) (still q (below step q x) (kept q q x f))
-  through {k} {q} x (held hs c v d) = through x d ∙ sym (first_step (λ i. step (slot_at (record { slot = q; note = c; it = v } ∷ hs) i)) (length hs) (below step q x))
+  through {k} x {q} {hs} (free f d) = through x d ∙ ap (rows step hs (length hs)) (still q (below step q x) (kept q q x f))
+  through {k} x {q} (held hs c v d) = through x d ∙ sym (first_step (λ i. step (slot_at (record { slot = q; note = c; it = v } ∷ hs) i)) (length hs) (below step q x))
 
   -- the steps at all records are those at the rows
   pub fold : {k : ℕ} (x : X) {hs : List Row} → Apart (table x) k 0 hs → below step k x ≡ rows step hs (length hs) x
