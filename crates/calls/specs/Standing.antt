@@ -47,8 +47,8 @@ module _ (w : Window) (s : Store) (room need : ℕ) where
 
 -- ---- the ways through the five tests
 module _ (w : Window) (s : Store) (short : Bool) where
-  pub set-up-stops : (r : ℕ) → r ≡ first (set_up_tests w) → (r ≡ 0 → ⊥) → r ≡ first (standing_by w s short)
-  set-up-stops r e h = e ∙ first_stops (set_up_tests w) ((4, short_store w s || short) ∷ (5, disorder w s) ∷ []) (λ z. h (e ∙ z))
+  pub set_up-stops : (r : ℕ) → r ≡ first (set_up_tests w) → (r ≡ 0 → ⊥) → r ≡ first (standing_by w s short)
+  set_up-stops r e h = e ∙ first_stops (set_up_tests w) ((4, short_store w s || short) ∷ (5, disorder w s) ∷ []) (λ z. h (e ∙ z))
 
   module _ (ok : first (set_up_tests w) ≡ 0) where
     goes : (r : ℕ) → r ≡ first ((4, short_store w s || short) ∷ (5, disorder w s) ∷ []) → r ≡ first (standing_by w s short)

@@ -232,12 +232,12 @@ module _ (file : List ℕ) (b : Bytes file) (e : (read_on fresh file).number ≡
       rw (le-ltb (length file) header_size (omega (arith, reaches)), le-ltb most_entries (count_at file) few, many file 0 (count_at file))
 
   -- an entry gives its port, and where its body stands in the file
-  pub entry-is-read : (i : ℕ) (other : Entry) → i < length (content_of file).entries
+  pub entry_is-read : (i : ℕ) (other : Entry) → i < length (content_of file).entries
       → ((entry_read file i).number ≡ 0)
       × (get_or (content_of file).entries i other ≡ record { port = (entry_read file i).port; body = take (entry_read file i).length (drop (entry_read file i).start file) })
       × ((entry_read file i).start + (entry_read file i).length ≤ length file)
   unfolding entry_read
-  entry-is-read i other h =
+  entry_is-read i other h =
       let below : i < count_at file = omega (arith, count-is-read file) in
       let c : (header_read file).count ≡ count_at file = ap (λ (x : Header). x.count) header-is-read ∙ count-is-read file in
       let row = row_of file b (judge-true file e) i below in
@@ -255,9 +255,9 @@ module _ (file : List ℕ) (n : ℕ) (h : n ≤ length file) where
       let m : length (take n file) ≡ n = length-take-le n file h in
       rw (m, le-ltb n header_size k, le-ltb (length file) header_size (omega arith), first-bytes 0 (omega arith), first-bytes 1 (omega arith), first-bytes 2 (omega arith), first-bytes 3 (omega arith), first-bytes 4 (omega arith), first-bytes 5 (omega arith), first-bytes 6 (omega arith), first-bytes 7 (omega arith), first-bytes 8 (omega arith), first-bytes 9 (omega arith), first-bytes 10 (omega arith), first-bytes 11 (omega arith))
 
-  pub front-entry : (i : ℕ) → table_end (i + 1) ≤ n → entry_read (take n file) i ≡ entry_read file i
+  pub front_entry : (i : ℕ) → table_end (i + 1) ≤ n → entry_read (take n file) i ≡ entry_read file i
   unfolding entry_read
-  front-entry i k =
+  front_entry i k =
       let m : length (take n file) ≡ n = length-take-le n file h in
       let t = table_end i in
       rw (front-header (omega arith), m, le-leb (table_end (i + 1)) n k, le-leb (table_end (i + 1)) (length file) (omega arith), first-bytes (table_end i) (omega arith), first-bytes (table_end i + 2) (omega arith), first-bytes (table_end i + 3) (omega arith), first-bytes (table_end i + 4) (omega arith), first-bytes (table_end i + 5) (omega arith), first-bytes (table_end i + 6) (omega arith), first-bytes (table_end i + 7) (omega arith))

@@ -1,6 +1,6 @@
 -- What the walks of the calls share: the words in a local, and the calls by the side of the work, each as one step.
 --     apart, together          the local's one value with what the array owns is the row of its words; and back
---     lends-words, words_back  the words are lent as `&mut` for a lifetime that is made for it; and come back, at their last list
+--     lends_words, words_back  the words are lent as `&mut` for a lifetime that is made for it; and come back, at their last list
 --     reaches, few-made, all_made, judged  `reach`, `few_words`, `all_words` and `enough`
 --     passes, lends            the words are lent to `gather` and come back, and a table that is a `&κ [Record]` is passed to it; or one that is a `&κ mut [Record]` is lent, and comes back
 --     scatters, wipes          the table is passed on for good to `scatter_back`, to which the words are lent as `&`, or to `wipe`
@@ -197,8 +197,8 @@ module _ {M : Type 1} {𝓤 : Ura M} (𝓛 : Logic 𝓤) where
       move ! (1 ∷ []) $ use1 𝓛 (‵ (fat full_share (words_ty b) l 0 (value_of ws))) (𝓛.laws.raw_at full_share (words_ty b) l 0 _) $ frame ! $ done !))
 
   module _ (b : ℕ) (rm : Room u32 (size b)) (l : ℕ) (ws : List ℕ) (lw : length ws ≡ size b) {Γ : List (Item 𝓤)} {G : Goal 𝓤 H} (a : Soaks G) where
-    pub lends-words : (ℓ : Lifetime) → ((ν : ℕ) (δ : GName) → Sq 𝓛 (‵ ((MutSlice ℓ (ν ∷ []) u32).own_val (lying l ws δ) (slice_of l ws ∷ [])) ∷ ‵ (flft (ν ∷ []) full_share) ∷ ‵ (Owed l ws ν δ) ∷ Γ) G) → Sq 𝓛 (‵ (Lie l ws) ∷ Γ) G
-    lends-words ℓ k =
+    pub lends_words : (ℓ : Lifetime) → ((ν : ℕ) (δ : GName) → Sq 𝓛 (‵ ((MutSlice ℓ (ν ∷ []) u32).own_val (lying l ws δ) (slice_of l ws ∷ [])) ∷ ‵ (flft (ν ∷ []) full_share) ∷ ‵ (Owed l ws ν δ) ∷ Γ) G) → Sq 𝓛 (‵ (Lie l ws) ∷ Γ) G
+    lends_words ℓ k =
         lft_new ! a (λ ν. move ! (1 ∷ []) $ use1 𝓛 (‵ (cells (mem u32) ws l 0)) (whole_in 𝓛 u32 ws l 0) $
         use1 𝓛 (later (some (λ (δ : GName). ‵ ((MutSlice ℓ (ν ∷ []) u32).own_val (lying l ws δ) (slice_of l ws ∷ [])) ⊛ ‵ (Owed l ws ν δ)))) (lends_slice 𝓛 u32 ℓ (ν ∷ []) ws l 0 (room b rm ws lw)) $ await ! a $ pick ! (λ δ. split ! $ move ! (0 ∷ 2 ∷ []) $ k ν δ))
 
@@ -212,14 +212,14 @@ module _ {M : Type 1} {𝓤 : Ura M} (𝓛 : Logic 𝓤) where
   as_number r u is {Γ} {C} {Λ} {E} {d} {rest} {p} s = subst (λ (z : Val). Sq 𝓛 Γ (lands C Λ E d z rest p)) (sym (ap only is.0)) s
 
   module _ (at_mem : Memory → SProp 𝓤) (run : Routine → Fun 𝓤) where
-    abbrev pub to-reach : (len k : ℕ) → (Reach 𝓛 at_mem run).Ghost
-    to-reach len k = ((tt, tt, tt, (len, (k, tt)), (vint w64 len ∷ [], (vint w64 k ∷ [], tt))), tt)
+    abbrev pub to_reach : (len k : ℕ) → (Reach 𝓛 at_mem run).Ghost
+    to_reach len k = ((tt, tt, tt, (len, (k, tt)), (vint w64 len ∷ [], (vint w64 k ∷ [], tt))), tt)
 
-    goes-reach : (len k : ℕ) → len < 2 ^ 64 → k < 2 ^ 64 → ent 𝓤 (emp 𝓤) ((Reach 𝓛 at_mem run).pre (to-reach len k))
-    goes-reach len k gl gk = qed 𝓛 [] ∵ nothing ! $ owned ! usize (Is usize) (uint_Makes 𝓛 w64) k (vint w64 k ∷ []) (refl, gk) $ fjoin ! $ owned ! usize (Is usize) (uint_Makes 𝓛 w64) len (vint w64 len ∷ []) (refl, gl) $ fjoin ! $ nothing ! $ join ! $ frame ! $ done !
+    goes_reach : (len k : ℕ) → len < 2 ^ 64 → k < 2 ^ 64 → ent 𝓤 (emp 𝓤) ((Reach 𝓛 at_mem run).pre (to_reach len k))
+    goes_reach len k gl gk = qed 𝓛 [] ∵ nothing ! $ owned ! usize (Is usize) (uint_Makes 𝓛 w64) k (vint w64 k ∷ []) (refl, gk) $ fjoin ! $ owned ! usize (Is usize) (uint_Makes 𝓛 w64) len (vint w64 len ∷ []) (refl, gl) $ fjoin ! $ nothing ! $ join ! $ frame ! $ done !
 
-    said-reach : (len k r : ℕ) → ent 𝓤 (ensured 𝓛 reach.ended (reach.clauses 𝓛 at_mem run) tt (len, (k, tt)) tt r) (fact 𝓤 (r ≡ reached len k))
-    said-reach len k r = ex_e 𝓤 _ (λ zs. snd∗ 𝓤 (sem 𝓛 (lasts reach.ended tt (len, (k, tt)) zs)) (fact 𝓤 (r ≡ reached len k)))
+    said_reach : (len k r : ℕ) → ent 𝓤 (ensured 𝓛 reach.ended (reach.clauses 𝓛 at_mem run) tt (len, (k, tt)) tt r) (fact 𝓤 (r ≡ reached len k))
+    said_reach len k r = ex_e 𝓤 _ (λ zs. snd∗ 𝓤 (sem 𝓛 (lasts reach.ended tt (len, (k, tt)) zs)) (fact 𝓤 (r ≡ reached len k)))
 
     abbrev pub to-enough : ℕ → (Enough 𝓛 at_mem run).Ghost
     to-enough m = ((tt, tt, tt, (m, tt), (vint w64 m ∷ [], tt)), tt)
@@ -250,12 +250,12 @@ module _ {M : Type 1} {𝓤 : Ura M} (𝓛 : Logic 𝓤) where
 
     module _ {Γ : List (Item 𝓤)} {C : Calls 𝓤 H} {Λ : Loops 𝓤 H} {E : Env 𝓤 H} {xs : List Operand} {d : Place} {rest : Body} {p : Post 𝓤 H} (fm : FmC 𝓤 H 𝓛.laws C) where
       pub reaches : (len k : ℕ) → len < 2 ^ 64 → k < 2 ^ 64 → Triple 𝓤 (C #reach) (Reach 𝓛 at_mem run)
-          → Opds (Go {0}) 𝓛 (raw ((Reach 𝓛 at_mem run).pre (to-reach len k)) ∷ Γ) E xs (vint w64 len ∷ vint w64 k ∷ [])
+          → Opds (Go {0}) 𝓛 (raw ((Reach 𝓛 at_mem run).pre (to_reach len k)) ∷ Γ) E xs (vint w64 len ∷ vint w64 k ∷ [])
           → ((n : ℕ) → n ≡ reached len k → n < 2 ^ 64 → Sq 𝓛 Γ (lands C Λ E d (vint w64 n) rest p)) → Sq 𝓛 Γ (runs C Λ E (seq (call #reach xs d) rest) p)
       reaches len k gl gk known os next =
-          use0 𝓛 (raw ((Reach 𝓛 at_mem run).pre (to-reach len k))) (goes-reach len k gl gk) $ calls_at ! fm (Reach 𝓛 at_mem run) known (to-reach len k) os (λ u.
+          use0 𝓛 (raw ((Reach 𝓛 at_mem run).pre (to_reach len k))) (goes_reach len k gl gk) $ calls_at ! fm (Reach 𝓛 at_mem run) known (to_reach len k) os (λ u.
           use1 𝓛 (later (some (λ (r : ℕ). (‵ ftrue ⊛ ‵ (usize.own_val r (u ∷ []))) ⊛ raw (ensured 𝓛 reach.ended (reach.clauses 𝓛 at_mem run) tt (len, (k, tt)) tt r)))) (id⊢ 𝓤 _) $ await ! tt $ pick ! (λ n.
-          split ! $ move ! (1 ∷ []) $ use1 𝓛 (raw (fact 𝓤 (n ≡ reached len k))) (said-reach len k n) $ heard ! (n ≡ reached len k) (λ e. split ! $ drop ! $
+          split ! $ move ! (1 ∷ []) $ use1 𝓛 (raw (fact 𝓤 (n ≡ reached len k))) (said_reach len k n) $ heard ! (n ≡ reached len k) (λ e. split ! $ drop ! $
           peeks ! usize (Is usize) (shows 𝓛 usize) n (u ∷ []) (λ is. drop ! $ as_number n u is (next n e is.1)))))
 
       pub judged : (m : ℕ) → m < 2 ^ 64 → Triple 𝓤 (C #enough) (Enough 𝓛 at_mem run) → Opds (Go {0}) 𝓛 (raw ((Enough 𝓛 at_mem run).pre (to-enough m)) ∷ Γ) E xs (vint w64 m ∷ [])
@@ -284,24 +284,24 @@ module _ {M : Type 1} {𝓤 : Ura M} (𝓛 : Logic 𝓤) where
 
     -- the table, the words at l of a hand of b records, and how many records are looked through
     module _ (b : ℕ) (rm : Room u32 (size b)) (gb : b < 2 ^ 64) (l : ℕ) (ws : List ℕ) (lw : length ws ≡ size b) (k n : ℕ) (gn : n < 2 ^ 64) where
-      abbrev pub to-gather : Lft → Share → MutBor (List Record) → ℕ → GName → (Gather 𝓛 at_mem run).Ghost
-      to-gather κ q x ν δ = (((κ, (ν ∷ [], tt)), (q, (full_share, tt)), tt, (x, (n, (lying l ws δ, (b, tt)))), (table_of x ∷ [], (vint w64 n ∷ [], (slice_of l ws ∷ [], (vint w64 b ∷ [], tt))))), tt)
+      abbrev pub to_gather : Lft → Share → MutBor (List Record) → ℕ → GName → (Gather 𝓛 at_mem run).Ghost
+      to_gather κ q x ν δ = (((κ, (ν ∷ [], tt)), (q, (full_share, tt)), tt, (x, (n, (lying l ws δ, (b, tt)))), (table_of x ∷ [], (vint w64 n ∷ [], (slice_of l ws ∷ [], (vint w64 b ∷ [], tt))))), tt)
 
       module _ (ℓ : Lifetime) (κ : Lft) (q : Share) (x : Bor (List Record)) (e : n ≡ reached (length x.now) k) where
-        goes-gather : (ν : ℕ) (δ : GName)
-            → ent 𝓤 (sep 𝓤 (sem 𝓛 ((ShrSlice ℓ κ T.the_row).own_val x (table_of x ∷ []))) (sep 𝓤 (sem 𝓛 ((MutSlice (named 1) (ν ∷ []) u32).own_val (lying l ws δ) (slice_of l ws ∷ []))) (sep 𝓤 (A.lft κ q) (A.lft (ν ∷ []) full_share)))) ((Gather 𝓛 at_mem run).pre (to-gather κ q x ν δ))
-        goes-gather ν δ =
+        goes_gather : (ν : ℕ) (δ : GName)
+            → ent 𝓤 (sep 𝓤 (sem 𝓛 ((ShrSlice ℓ κ T.the_row).own_val x (table_of x ∷ []))) (sep 𝓤 (sem 𝓛 ((MutSlice (named 1) (ν ∷ []) u32).own_val (lying l ws δ) (slice_of l ws ∷ []))) (sep 𝓤 (A.lft κ q) (A.lft (ν ∷ []) full_share)))) ((Gather 𝓛 at_mem run).pre (to_gather κ q x ν δ))
+        goes_gather ν δ =
             qed 𝓛 (‵ ((ShrSlice ℓ κ T.the_row).own_val x (table_of x ∷ [])) ∷ ‵ ((MutSlice (named 1) (ν ∷ []) u32).own_val (lying l ws δ) (slice_of l ws ∷ [])) ∷ ‵ (flft κ q) ∷ ‵ (flft (ν ∷ []) full_share) ∷ []) ∵
             says ! (fits_gather b k (length x.now) n ws e lw) $ nothing ! $ move ! (4 ∷ 0 ∷ []) $ join ! $ move ! (3 ∷ 0 ∷ []) $ join ! $ frame ! $
             nothing ! $ owned ! usize (Is usize) (uint_Makes 𝓛 w64) b (vint w64 b ∷ []) (refl, gb) $ fjoin ! $ move ! (2 ∷ 0 ∷ []) $ fjoin ! $ owned ! usize (Is usize) (uint_Makes 𝓛 w64) n (vint w64 n ∷ []) (refl, gn) $ fjoin ! $ move ! (1 ∷ 0 ∷ []) $ fjoin ! $ done !
 
         module _ {Γ : List (Item 𝓤)} {C : Calls 𝓤 H} {Λ : Loops 𝓤 H} {E : Env 𝓤 H} {xs : List Operand} {d : Place} {rest : Body} {p : Post 𝓤 H} (fm : FmC 𝓤 H 𝓛.laws C) (known : Triple 𝓤 (C #gather) (Gather 𝓛 at_mem run)) where
-          pub passes : ((ν : ℕ) (δ : GName) → Opds (Go {0}) 𝓛 (raw ((Gather 𝓛 at_mem run).pre (to-gather κ q x ν δ)) ∷ ‵ (Owed l ws ν δ) ∷ Γ) E xs (table_of x ∷ vint w64 n ∷ slice_of l ws ∷ vint w64 b ∷ []))
+          pub passes : ((ν : ℕ) (δ : GName) → Opds (Go {0}) 𝓛 (raw ((Gather 𝓛 at_mem run).pre (to_gather κ q x ν δ)) ∷ ‵ (Owed l ws ν δ) ∷ Γ) E xs (table_of x ∷ vint w64 n ∷ slice_of l ws ∷ vint w64 b ∷ []))
               → ((ts : List ℕ) (m : ℕ) → Gathered b m (hand ts) (gathered n x.now) → length ts ≡ size b → m < 2 ^ 64 → Sq 𝓛 (‵ (flft κ q) ∷ ‵ (Lie l ts) ∷ Γ) (lands C Λ E d (vint w64 m) rest p))
               → Sq 𝓛 (‵ ((ShrSlice ℓ κ T.the_row).own_val x (table_of x ∷ [])) ∷ ‵ (flft κ q) ∷ ‵ (Lie l ws) ∷ Γ) (runs C Λ E (seq (call #gather xs d) rest) p)
           passes os next =
-              move ! (2 ∷ []) $ lends-words b rm l ws lw tt (named 1) (λ ν δ. move ! (4 ∷ 1 ∷ []) $ join ! $ move ! (1 ∷ 0 ∷ []) $ join ! $ move ! (2 ∷ 0 ∷ []) $ join ! $ use1 𝓛 (raw ((Gather 𝓛 at_mem run).pre (to-gather κ q x ν δ))) (goes-gather ν δ) $
-              calls_at ! fm (Gather 𝓛 at_mem run) known (to-gather κ q x ν δ) (os ν δ) (λ u.
+              move ! (2 ∷ []) $ lends_words b rm l ws lw tt (named 1) (λ ν δ. move ! (4 ∷ 1 ∷ []) $ join ! $ move ! (1 ∷ 0 ∷ []) $ join ! $ move ! (2 ∷ 0 ∷ []) $ join ! $ use1 𝓛 (raw ((Gather 𝓛 at_mem run).pre (to_gather κ q x ν δ))) (goes_gather ν δ) $
+              calls_at ! fm (Gather 𝓛 at_mem run) known (to_gather κ q x ν δ) (os ν δ) (λ u.
               use1 𝓛 (later (some (λ (r : ℕ). ((‵ (flft κ q) ⊛ (‵ (flft (ν ∷ []) full_share) ⊛ ‵ ftrue)) ⊛ ‵ (usize.own_val r (u ∷ []))) ⊛ raw (ensured 𝓛 gather.ended (gather.clauses 𝓛 at_mem run) (κ, (ν ∷ [], tt)) (x, (n, (lying l ws δ, (b, tt)))) tt r)))) (id⊢ 𝓤 _) $ await ! tt $ pick ! (λ r.
               split ! $ move ! (1 ∷ []) $ use1 𝓛 (some (λ (ts : Unit {0} × (Unit {0} × (List ℕ × (Unit {0} × Unit {0})))). ‵ (lasts gather.ended (κ, (ν ∷ [], tt)) (x, (n, (lying l ws δ, (b, tt)))) ts) ⊛ raw (fact 𝓤 (Gathered b r (hand ts.1.1.0) (gathered n x.now))))) (id⊢ 𝓤 _) $ pick ! (λ ts.
               split ! $ move ! (1 ∷ []) $ heard ! (Gathered b r (hand ts.1.1.0) (gathered n x.now)) (λ g. fsplit ! $ drop ! $ fsplit ! $ drop ! $ fsplit ! $ fsplit ! $ move ! (1 ∷ []) $ feq_l ! (λ c. move ! (1 ∷ []) $ drop ! $
@@ -321,7 +321,7 @@ module _ {M : Type 1} {𝓤 : Ura M} (𝓛 : Logic 𝓤) where
         Kept ν = LentShared T.the_row κ (ν ∷ []) q x.ghost_name x.ref_ptr.0 x.ref_ptr.1 x.now
 
         module _ {Γ : List (Item 𝓤)} {C : Calls 𝓤 H} {Λ : Loops 𝓤 H} {E : Env 𝓤 H} {xs : List Operand} {d : Place} {rest : Body} {p : Post 𝓤 H} (fm : FmC 𝓤 H 𝓛.laws C) (known : Triple 𝓤 (C #gather) (Gather 𝓛 at_mem run)) where
-          pub lends : ((ν ν' : ℕ) (δ δ' : GName) → Opds (Go {0}) 𝓛 (raw ((Gather 𝓛 at_mem run).pre (to-gather (ν ∷ []) full_share (tab δ) ν' δ')) ∷ ‵ (Owed l ws ν' δ') ∷ ‵ (Kept ν) ∷ Γ) E xs (table_of x ∷ vint w64 n ∷ slice_of l ws ∷ vint w64 b ∷ []))
+          pub lends : ((ν ν' : ℕ) (δ δ' : GName) → Opds (Go {0}) 𝓛 (raw ((Gather 𝓛 at_mem run).pre (to_gather (ν ∷ []) full_share (tab δ) ν' δ')) ∷ ‵ (Owed l ws ν' δ') ∷ ‵ (Kept ν) ∷ Γ) E xs (table_of x ∷ vint w64 n ∷ slice_of l ws ∷ vint w64 b ∷ []))
               → ((ts : List ℕ) (m : ℕ) → Gathered b m (hand ts) (gathered n x.now) → length ts ≡ size b → m < 2 ^ 64 → Sq 𝓛 (‵ OwnTab ∷ ‵ (flft κ q) ∷ ‵ (Lie l ts) ∷ Γ) (lands C Λ E d (vint w64 m) rest p))
               → Sq 𝓛 (‵ OwnTab ∷ ‵ (flft κ q) ∷ ‵ (Lie l ws) ∷ Γ) (runs C Λ E (seq (call #gather xs d) rest) p)
           lends os next =
@@ -365,21 +365,21 @@ module _ {M : Type 1} {𝓤 : Ura M} (𝓛 : Logic 𝓤) where
               move ! (2 ∷ []) $ feq_l ! (λ eu. move ! (2 ∷ 1 ∷ 0 ∷ []) $ next ts.0 u e c (subst (λ (z : Val). T (has_ty ty_unit z) × WT z) (sym (ap only eu)) (tt, tt)))))))))))
 
       module _ (fits : m ≤ length x.now) where
-        abbrev pub to-wipe : (Wipe 𝓛 at_mem run).Ghost
-        to-wipe = (((κ, tt), (q, tt), tt, (x, (m, tt)), (table_of x ∷ [], (vint w64 m ∷ [], tt))), tt)
+        abbrev pub to_wipe : (Wipe 𝓛 at_mem run).Ghost
+        to_wipe = (((κ, tt), (q, tt), tt, (x, (m, tt)), (table_of x ∷ [], (vint w64 m ∷ [], tt))), tt)
 
-        goes-wipe : ent 𝓤 (sep 𝓤 (sem 𝓛 Tab) (A.lft κ q)) ((Wipe 𝓛 at_mem run).pre to-wipe)
-        goes-wipe =
+        goes_wipe : ent 𝓤 (sep 𝓤 (sem 𝓛 Tab) (A.lft κ q)) ((Wipe 𝓛 at_mem run).pre to_wipe)
+        goes_wipe =
             qed 𝓛 (‵ Tab ∷ ‵ (flft κ q) ∷ []) ∵ says ! fits $ nothing ! $ move ! (2 ∷ 0 ∷ []) $ join ! $ frame ! $
             nothing ! $ owned ! usize (Is usize) (uint_Makes 𝓛 w64) m (vint w64 m ∷ []) (refl, gm) $ fjoin ! $ move ! (1 ∷ 0 ∷ []) $ fjoin ! $ done !
 
         module _ {Γ : List (Item 𝓤)} {C : Calls 𝓤 H} {Λ : Loops 𝓤 H} {E : Env 𝓤 H} {xs : List Operand} {d : Place} {rest : Body} {p : Post 𝓤 H} (fm : FmC 𝓤 H 𝓛.laws C) where
           pub wipes : Triple 𝓤 (C #wipe) (Wipe 𝓛 at_mem run)
-              → Opds (Go {0}) 𝓛 (raw ((Wipe 𝓛 at_mem run).pre to-wipe) ∷ Γ) E xs (table_of x ∷ vint w64 m ∷ [])
+              → Opds (Go {0}) 𝓛 (raw ((Wipe 𝓛 at_mem run).pre to_wipe) ∷ Γ) E xs (table_of x ∷ vint w64 m ∷ [])
               → ((ts : List Record) (u : Val) → ts ≡ wiped m x.now → length ts ≡ length x.now → T (has_ty ty_unit u) × WT u → Sq 𝓛 (‵ (finally T.the_row x.ghost_name ts) ∷ ‵ (flft κ q) ∷ Γ) (lands C Λ E d u rest p))
               → Sq 𝓛 (‵ Tab ∷ ‵ (flft κ q) ∷ Γ) (runs C Λ E (seq (call #wipe xs d) rest) p)
           wipes known os next =
-              use2 𝓛 (raw ((Wipe 𝓛 at_mem run).pre to-wipe)) goes-wipe $ calls_at ! fm (Wipe 𝓛 at_mem run) known to-wipe os (λ u.
+              use2 𝓛 (raw ((Wipe 𝓛 at_mem run).pre to_wipe)) goes_wipe $ calls_at ! fm (Wipe 𝓛 at_mem run) known to_wipe os (λ u.
               use1 𝓛 (later (some (λ (r : Unit {0}). ((‵ (flft κ q) ⊛ ‵ ftrue) ⊛ ‵ (unit.own_val r (u ∷ []))) ⊛ raw (ensured 𝓛 wipe.ended (wipe.clauses 𝓛 at_mem run) (κ, tt) (x, (m, tt)) tt r)))) (id⊢ 𝓤 _) $ await ! tt $ pick ! (λ r.
               split ! $ move ! (1 ∷ []) $ use1 𝓛 (some (λ (ts : List Record × (Unit {0} × Unit {0})). ‵ (lasts wipe.ended (κ, tt) (x, (m, tt)) ts) ⊛ raw (fact 𝓤 (ts.0 ≡ wiped m x.now)))) (id⊢ 𝓤 _) $ pick ! (λ ts.
               split ! $ move ! (1 ∷ []) $ heard ! (ts.0 ≡ wiped m x.now) (λ e. fsplit ! $ fsplit ! $ move ! (1 ∷ []) $ feq_l ! (λ c. move ! (1 ∷ []) $ drop ! $

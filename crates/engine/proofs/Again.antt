@@ -65,8 +65,8 @@ module _ (w : Window) (i : ℕ) (marks : List ℕ) (hs : List Row) (j : ℕ) whe
         none q = subst (λ (x : Record). Inside w x.stream x.snbase → count (eqb i) (group w x.stream x.snbase) ≡ cond t 1 0) e is q ∙ ap (λ (b : Bool). cond b 1 0) f
 
     -- one that is looked at again has the note of that look
-    pub looked-again : j < length hs → (f : Look) → f ≡ look marks (group w v.stream v.snbase) → (n : ℕ) → n ≡ note_of f → (hs' : List Row) → hs' ≡ put_note hs j n → AgainAt w i marks j hs hs'
-    looked-again l f ef n en hs' p =
+    pub looked_again : j < length hs → (f : Look) → f ≡ look marks (group w v.stream v.snbase) → (n : ℕ) → n ≡ note_of f → (hs' : List Row) → hs' ≡ put_note hs j n → AgainAt w i marks j hs hs'
+    looked_again l f ef n en hs' p =
         let here : get_or hs' j nobody ≡ record { slot = (get_or hs j nobody).slot; note = n; it = it_at hs j } = ap (λ (x : List Row). get_or x j nobody) p ∙ get_or-set_same hs j _ nobody l in
         record {
           alike = subst (λ (x : List Row). Alike x hs) (sym p) (alike-note hs j n);
@@ -90,11 +90,11 @@ pub record AgainTo (w : Window) (i : ℕ) (marks : List ℕ) (j : ℕ) (hs hs' :
   pub rest : (q : ℕ) → j ≤ q → get_or hs' q nobody ≡ get_or hs q nobody
 
 module _ (w : Window) (i : ℕ) (marks : List ℕ) where
-  pub again-none : (hs : List Row) → AgainTo w i marks 0 hs hs
-  again-none hs = record { alike = alike_refl hs; done = λ q l. absurd (omega (arith, l)); rest = λ q l. refl }
+  pub again_none : (hs : List Row) → AgainTo w i marks 0 hs hs
+  again_none hs = record { alike = alike_refl hs; done = λ q l. absurd (omega (arith, l)); rest = λ q l. refl }
 
-  pub again-more : (j : ℕ) (hs hs₁ hs₂ : List Row) → AgainTo w i marks j hs hs₁ → AgainAt w i marks j hs₁ hs₂ → AgainTo w i marks (j + 1) hs hs₂
-  again-more j hs hs₁ hs₂ a b = record {
+  pub again_more : (j : ℕ) (hs hs₁ hs₂ : List Row) → AgainTo w i marks j hs hs₁ → AgainAt w i marks j hs₁ hs₂ → AgainTo w i marks (j + 1) hs hs₂
+  again_more j hs hs₁ hs₂ a b = record {
     alike = alike_trans b.alike a.alike;
     done = λ q l. go q l (eqb q j) refl;
     rest = λ q l. b.others q (λ e. omega (arith, l, e)) ∙ a.rest q (omega (arith, l));
@@ -106,8 +106,8 @@ module _ (w : Window) (i : ℕ) (marks : List ℕ) where
           rw z (subst (λ (h : Row). Again w i marks h (get_or hs₂ j nobody)) (a.rest j (omega arith)) b.row)
       go q l false e = let n = eqb-false q j e in subst (λ (h : Row). Again w i marks (get_or hs q nobody) h) (sym (b.others q n)) (a.done q (omega (arith, l, n)))
 
-  pub again-all : (j : ℕ) (hs hs' : List Row) → j ≡ length hs → AgainTo w i marks j hs hs' → AgainAll w i marks hs hs'
-  again-all j hs hs' e a = record { alike = a.alike; rows = λ q l. a.done q (omega (arith, e, l)) }
+  pub again_all : (j : ℕ) (hs hs' : List Row) → j ≡ length hs → AgainTo w i marks j hs hs' → AgainAll w i marks hs hs'
+  again_all j hs hs' e a = record { alike = a.alike; rows = λ q l. a.done q (omega (arith, e, l)) }
 
 -- a sound hand is sound again once position i is marked
 pub again_sound : (w : Window) (i : ℕ) (old : List ℕ) (hs hs' : List Row) → Sound w old hs → AgainAll w i (set old i 1) hs hs' → Sound w (set old i 1) hs'

@@ -78,8 +78,8 @@ module _ (w : Window) (marks : List ℕ) (hs : List Row) where
 
     -- a test that holds only of rows in use
     module _ (test : List Row → ℕ → Bool) (of-used : (gs : List Row) (i : ℕ) → test gs i ≡ true → used (it_at gs i) ≡ true) where
-      pub keeps-if : (d : Desk) (i : ℕ) → i < length d.rows → Keeps w marks np hs d → Keeps w marks np hs (free_if test i d)
-      keeps-if d i l k = go (test d.rows i) refl
+      pub keeps_if : (d : Desk) (i : ℕ) → i < length d.rows → Keeps w marks np hs d → Keeps w marks np hs (free_if test i d)
+      keeps_if d i l k = go (test d.rows i) refl
         where
           go : (t : Bool) → test d.rows i ≡ t → Keeps w marks np hs (cond t (free_row i d) d)
           go true e = keeps-row d i l (of-used d.rows i e) k
@@ -89,7 +89,7 @@ module _ (w : Window) (marks : List ℕ) (hs : List Row) where
       keeps_below d zero l k = k
       keeps_below d (suc m) l k =
           let b = keeps_below d m (omega arith) k in
-          keeps-if (below (free_if test) m d) m (omega (arith, l, same_length hs (below (free_if test) m d).rows b.same-slots)) b
+          keeps_if (below (free_if test) m d) m (omega (arith, l, same_length hs (below (free_if test) m d).rows b.same-slots)) b
 
       pub keeps-all : (d : Desk) (m : ℕ) → m ≤ length hs → Keeps w marks np hs d → Keeps w marks np hs (free_below test m d)
       unfolding free_below
@@ -102,8 +102,8 @@ module _ (w : Window) (marks : List ℕ) (hs : List Row) where
       shown d = scene d.window (stored media timestamps lengths marks d.parity (scatter d.rows t)) b q
 
       -- the record of a row
-      pub row-record : (d : Desk) → Keeps w marks np hs d → (i : ℕ) → i < length hs → get_or (scatter d.rows t) (slot_at hs i) blank ≡ it_at d.rows i
-      row-record d k i l =
+      pub row_record : (d : Desk) → Keeps w marks np hs d → (i : ℕ) → i < length hs → get_or (scatter d.rows t) (slot_at hs i) blank ≡ it_at d.rows i
+      row_record d k i l =
           let fits = same-fits f d.rows k.same-slots in
           ap (λ (q : ℕ). get_or (scatter d.rows t) q blank) (sym (same-slot hs d.rows k.same-slots i)) ∙ get-scatter fits.apart fits.enough i (omega (arith, l, same_length hs d.rows k.same-slots))
 
@@ -161,7 +161,7 @@ module _ (w : Window) (marks : List ℕ) (hs : List Row) where
 
       -- ---- spent rows
       spent-is : (d : Desk) → Keeps w marks np hs d → (i : ℕ) → i < length hs → spent (shown d) (slot_at hs i) ≡ row_spent d.rows i
-      spent-is d k i l = rw (row-record d k i l, k.same) (go (omega (arith, l, same_length hs d.rows k.same-slots)) (used (it_at d.rows i)) refl)
+      spent-is d k i l = rw (row_record d k i l, k.same) (go (omega (arith, l, same_length hs d.rows k.same-slots)) (used (it_at d.rows i)) refl)
         where
           go : i < length d.rows → (u : Bool) → used (it_at d.rows i) ≡ u → (u && eqb (length (missing marks (group w (it_at d.rows i).stream (it_at d.rows i).snbase))) 0) ≡ (u && says_none (note_at d.rows i))
           go n true e = sym (ap says_none (k.sound.at i n e).noted ∙ none_is marks (group w (it_at d.rows i).stream (it_at d.rows i).snbase))

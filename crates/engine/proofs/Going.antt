@@ -61,9 +61,9 @@ module _ (w : Window) (x : Parts) (v : Window) (y : Parts) (done bad left : ℕ)
       }
 
   -- one that found nothing ready
-  pub going-rest : (r : Round) (z : Parts) → Rounded v y r z → r.rebuilt + r.spoilt ≡ 0 → Settled w x (record { window = r.window; rebuilt = done; spoilt = bad }) z
+  pub going_rest : (r : Round) (z : Parts) → Rounded v y r z → r.rebuilt + r.spoilt ≡ 0 → Settled w x (record { window = r.window; rebuilt = done; spoilt = bad }) z
   unfolding settle round
-  going-rest r z h e = record {
+  going_rest r z h e = record {
     few = omega (arith, g.counted);
     same-slots = h.same-slots ∙ g.same-slots;
     is = λ t k b q.

@@ -127,15 +127,15 @@ module _ (w : Window) (x : Parts) (s : Sound w x.marks x.rows) (t : List Record)
 
 -- ---- what was found
 module _ (base : ℕ) (hs : List Row) where
-  some-path : (a b : ℕ) → ◌≡◌ {A = Option ℕ} (some a) (some b) → a ≡ b
-  some-path a b e = cc
+  some_path : (a b : ℕ) → ◌≡◌ {A = Option ℕ} (some a) (some b) → a ≡ b
+  some_path a b e = cc
 
   ready-below : (m r : ℕ) → next_row base hs m ≡ some r → row_ready hs r ≡ true
   ready-below zero r e = let z : ◌≡◌ {A = ℕ} 0 1 = cc in absurd (omega arith)
   ready-below (suc m) r e = go (next_row base hs m) refl (ready-below m r) e
     where
       here : (t : Bool) (o : Option ℕ) → row_ready hs m ≡ t → (o ≡ some r → row_ready hs r ≡ true) → cond t (some m) o ≡ some r → row_ready hs r ≡ true
-      here true o et ih q = let z : m ≡ r = some-path m r q in ap (row_ready hs) (sym z) ∙ et
+      here true o et ih q = let z : m ≡ r = some_path m r q in ap (row_ready hs) (sym z) ∙ et
       here false o et ih q = ih q
 
       both : (q : ℕ) (t u : Bool) → row_ready hs m ≡ t → (◌≡◌ {A = Option ℕ} (some q) (some r) → row_ready hs r ≡ true) → cond (t && u) (some m) (some q) ≡ some r → row_ready hs r ≡ true

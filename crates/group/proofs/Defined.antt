@@ -74,8 +74,8 @@ module _ (w : Window) (media timestamps lengths marks these : List ℕ) (whole :
   other-size d parity records = sym (rw (← size_is, ne_eqb size k d) (and-false (same_content (its parity records).content given.content)))
 
   -- another timestamp or length recovery
-  pub other-numbers : (not (eqb stamp t) || not (eqb long n)) ≡ true → (parity : List ℕ) (records : List Record) → false ≡ same_recovery (its parity records) given
-  other-numbers d parity records = rw (← number_is timestamps, ← number_is lengths, ← es, ← el) (go (eqb stamp t) (eqb long n) _ _ d)
+  pub other_numbers : (not (eqb stamp t) || not (eqb long n)) ≡ true → (parity : List ℕ) (records : List Record) → false ≡ same_recovery (its parity records) given
+  other_numbers d parity records = rw (← number_is timestamps, ← number_is lengths, ← es, ← el) (go (eqb stamp t) (eqb long n) _ _ d)
     where
       go : (a b x y : Bool) → (not a || not b) ≡ true → false ≡ ((a && b && x) && y)
       go false b x y d = refl

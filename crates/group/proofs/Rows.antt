@@ -20,7 +20,7 @@ use Rattle.window.specs.Bounds.{SetUp}
 use Rattle.window.specs.declared.Look.TheVariants.{One}
 use Rattle.window.specs.Group.{group, is_missing, present}
 use Rattle.window.specs.Look.{look, one-missing}
-use Rattle.window.specs.Plain.{Inside, shape_of, place, group-plain}
+use Rattle.window.specs.Plain.{Inside, shape_of, place, group_plain}
 use Rattle.calls.specs.Content.{number_over, payload_over}
 use Rattle.group.specs.Along.{member_at, along}
 use Rattle.group.specs.Held.{Below, Held}
@@ -71,21 +71,21 @@ sum-front k p media lengths b (i ∷ l) =
 
 -- ---- the members held of a group
 module _ (group marks : List ℕ) (n : ℕ) (rows : List ℕ) (m : ℕ) (h : Held group marks n rows m) where
-  m-long : m ≤ length rows
-  m-long = omega (arith, h.few, h.long)
+  m_long : m ≤ length rows
+  m_long = omega (arith, h.few, h.long)
 
   row_below : (i : ℕ) → i < m → get_or rows i 0 < n
-  row_below i k = rw (get_or-take m rows i 0 k) at (below-get_or n (take m rows) h.below i (rw (length-take-le m rows m-long) k))
+  row_below i k = rw (get_or-take m rows i 0 k) at (below-get_or n (take m rows) h.below i (rw (length-take-le m rows m_long) k))
 
   pub rows-asked : (p : ℕ) (media : List ℕ) → n * p ≤ length media → Rows rows m p (length media)
-  rows-asked p media e = record { long = m-long; ends = λ i k. row_ends (get_or rows i 0) n p (length media) (row_below i k) e }
+  rows-asked p media e = record { long = m_long; ends = λ i k. row_ends (get_or rows i 0) n p (length media) (row_below i k) e }
 
-  pub numbers-asked : (timestamps : List ℕ) → n ≤ length timestamps → (m ≤ length rows) × ((i : ℕ) → i < m → get_or rows i 0 < length timestamps)
-  numbers-asked timestamps e = (m-long, λ i k. let q = row_below i k in omega arith)
+  pub numbers_asked : (timestamps : List ℕ) → n ≤ length timestamps → (m ≤ length rows) × ((i : ℕ) → i < m → get_or rows i 0 < length timestamps)
+  numbers_asked timestamps e = (m_long, λ i k. let q = row_below i k in omega arith)
 
   -- their timestamps, or their lengths
-  pub numbers-held : (part : List ℕ) (number : ℕ) → bit_xor number (xor_all (map (λ i. get_or part i 0) (take m rows))) ≡ number_over part marks group number
-  numbers-held part number = ap (λ (l : List ℕ). bit_xor number (xor_all (map (λ i. get_or part i 0) l))) h.are
+  pub numbers_held : (part : List ℕ) (number : ℕ) → bit_xor number (xor_all (map (λ i. get_or part i 0) (take m rows))) ≡ number_over part marks group number
+  numbers_held part number = ap (λ (l : List ℕ). bit_xor number (xor_all (map (λ i. get_or part i 0) l))) h.are
 
   -- their payloads
   pub payloads-held : (p : ℕ) (media lengths z : List ℕ) → zip_xor z (xor_payloads p (map (row_of p p media lengths) (take m rows))) ≡ payload_over p media lengths marks group z
@@ -98,7 +98,7 @@ module _ (group marks : List ℕ) (n : ℕ) (rows : List ℕ) (m : ℕ) (h : Hel
 -- ---- a group inside a window, by its definition
 module _ (w : Window) (based : w.base < 2 ^ width) (u : SetUp w) (stream snbase : ℕ) (inside : Inside w stream snbase) where
   pub group-below : Below w.n (group w stream snbase)
-  group-below = rw (group-plain w based u stream snbase inside) (below-map w.n (place w stream snbase) (na_of stream w.l w.d) (λ j k. inside.below j k))
+  group-below = rw (group_plain w based u stream snbase inside) (below-map w.n (place w stream snbase) (na_of stream w.l w.d) (λ j k. inside.below j k))
 
   pub kept-below : (test : ℕ → Bool) → Below w.n (keep test (group w stream snbase))
   kept-below test = below-keep w.n test (group w stream snbase) group-below

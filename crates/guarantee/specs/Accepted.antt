@@ -19,14 +19,14 @@ use Rattle.calls.specs.Settle.{round, settle}
 use Rattle.calls.specs.Accept.{first_free, take_parity}
 use Rattle.calls.specs.Call.{Outcome, settled}
 use Rattle.peel.specs.Group as Peel
-use Rattle.peel.specs.Peel.{Offer, media, check, View, gone, miss, Take, pass, Spoilt, Step, Runs, done, took, made, runs_then, steps-run, Spoiling, spoiling-then}
+use Rattle.peel.specs.Peel.{Offer, media, check, View, gone, miss, Take, pass, Spoilt, Step, Runs, done, took, made, runs_then, steps-run, Spoiling, spoiling_then}
 use Rattle.peel.specs.Rest.{Still, rounds, rounds-keep, rounds-steps, rounds-clear, rounds-still}
-use Rattle.guarantee.specs.Ranges.{count-not, count-raise, first-kept, up_to-lt}
+use Rattle.guarantee.specs.Ranges.{count-not, count_raise, first-kept, up_to-lt}
 use Rattle.guarantee.specs.Packets.{Packet, packet_of}
 use Rattle.guarantee.specs.Lengths.{Clean, clean_size}
 use Rattle.guarantee.specs.View.{Limits, code, check_at, Shaped, member-lt, slot_at, Held, view, slot-missing, miss-count, Good, Missing, held-count}
-use Rattle.guarantee.specs.Changes.{fill-keeps, fill-new, put-filled, put-others, put-held, put-was-held, put-good, put-missing, record-slot, record_same, recovery_same, record-other, record-held, record-was-held, of-each, record-good}
-use Rattle.guarantee.specs.Moves.{rebuilt_in, Solved, solved, spoilt-by, rebuild-good, rebuild-missing, step-rebuild}
+use Rattle.guarantee.specs.Changes.{fill_keeps, fill_new, put-filled, put-others, put-held, put-was-held, put-good, put-missing, record_slot, record_same, recovery_same, record_other, record_held, record_was-held, of_each, record_good_lem}
+use Rattle.guarantee.specs.Moves.{rebuilt_in, Solved, solved, spoilt-by, rebuild-good, rebuild-missing, step_rebuild}
 use Rattle.guarantee.specs.Rounds.{at, Working, engine}
 use Rattle.guarantee.specs.Order.{Ordered}
 
@@ -58,9 +58,9 @@ module _ {w : Window} (L : Limits w) {a u : ℕ} {s : Store} (G : Good w a u s) 
 
       move : Take (code w) (media i (packet_of c)) (view w s) (view w t)
       move = record {
-        keeps = fill-keeps (view w s) (view w t) i _ (slot-missing w s i e) (put-filled G i c h hp) (put-others G i c h hp);
+        keeps = fill_keeps (view w s) (view w t) i _ (slot-missing w s i e) (put-filled G i c h hp) (put-others G i c h hp);
         new = λ j y q. ⊎_elim inl (λ z. inr (ap₂ media z.0 z.1))
-            (fill-new (view w s) (view w t) i _ (slot-missing w s i e) (put-filled G i c h hp) (put-others G i c h hp) j y q);
+            (fill_new (view w s) (view w t) i _ (slot-missing w s i e) (put-filled G i c h hp) (put-others G i c h hp) j y q);
         sub = λ k v q. inl (put-was-held G i c h hp k v q);
         release = λ k v q. inl (put-held G i c h hp k v q);
         here = ap gone (put-filled G i c h hp);
@@ -117,7 +117,7 @@ module _ {w : Window} (L : Limits w) {a u : ℕ} {s : Store} (G : Good w a u s) 
           least = rebuild-missing (stream, snbase) c i solves G big ok L 1 K;
           rise = omega arith;
         };
-        runs = took takes-it (made (step-rebuild (stream, snbase) c i solves G big ok H (inr (refl, refl)) (λ l x h. inl h) (λ l x h. ⊎_elim inl (λ z. inr z.0) h)) done);
+        runs = took takes-it (made (step_rebuild (stream, snbase) c i solves G big ok H (inr (refl, refl)) (λ l x h. inl h) (λ l x h. ⊎_elim inl (λ z. inr z.0) h)) done);
         clear = inl refl;
       }
 
@@ -147,11 +147,11 @@ module _ {w : Window} (L : Limits w) {a u : ℕ} {s : Store} (G : Good w a u s) 
       v = held_record stream snbase c
 
       -- the store with it
-      abbrev with-record : Store
-      with-record = put_record w s r v c.content.payload
+      abbrev with_record : Store
+      with_record = put_record w s r v c.content.payload
 
       -- it is in use
-      used-same : is_in_use w with-record r ≡ true
+      used-same : is_in_use w with_record r ≡ true
       used-same = rw (record_same G r v c.content.payload hr hp)
 
       -- a check in hand is in another record
@@ -164,46 +164,46 @@ module _ {w : Window} (L : Limits w) {a u : ℕ} {s : Store} (G : Good w a u s) 
         working = record {
           present = a;
           used = u + 1;
-          store = with-record;
+          store = with_record;
           count = 0;
           spoilt = 0;
           is = refl;
-          good = record-good G r v c.content.payload hr hp (u + 1) (omega arith) (λ e. S) (λ e. big) (λ e q h f n. new q h f)
-              (let z = count-raise (is_in_use w s) (is_in_use w with-record) (rows w) r hr free used-same (λ q n. rw (record-other G r v c.content.payload hr hp q n)) in omega (arith, G.in_use));
+          good = record_good_lem G r v c.content.payload hr hp (u + 1) (omega arith) (λ e. S) (λ e. big) (λ e q h f n. new q h f)
+              (let z = count_raise (is_in_use w s) (is_in_use w with_record) (rows w) r hr free used-same (λ q n. rw (record_other G r v c.content.payload hr hp q n)) in omega (arith, G.in_use));
           least = record {
-            least = of-each G r v c.content.payload hr hp (λ x. used_by w x ≡ true → 1 ≤ length (missing s.marks (group w x.stream x.snbase))) (λ e. omega arith) (λ q h n e. let z = K.least q h e in omega arith);
+            least = of_each G r v c.content.payload hr hp (λ x. used_by w x ≡ true → 1 ≤ length (missing s.marks (group w x.stream x.snbase))) (λ e. omega arith) (λ q h n e. let z = K.least q h e in omega arith);
           };
           rise = omega arith;
         };
         runs = took (record {
-          keeps = λ j x e. record-slot G r v c.content.payload hr hp j ∙ e;
-          new = λ j x e. inl (sym (record-slot G r v c.content.payload hr hp j) ∙ e);
+          keeps = λ j x e. record_slot G r v c.content.payload hr hp j ∙ e;
+          new = λ j x e. inl (sym (record_slot G r v c.content.payload hr hp j) ∙ e);
           sub = λ k x h. from k x h (ℕ_discrete h.at r);
-          release = λ k x h. inl (record-held G r v c.content.payload hr hp k x h (not_free k x h));
+          release = λ k x h. inl (record_held G r v c.content.payload hr hp k x h (not_free k x h));
           here = inl (c, record { at = r; below = hr; used = used-same; names = rw (record_same G r v c.content.payload hr hp); carries = recovery_same G r v c.content.payload hr hp });
         }) done;
         clear = inl refl;
       }
         where
-          from : (k : ℕ × ℕ) (x : Recovery) (h : Held w with-record k x) → Dec (h.at ≡ r) → Held w s k x ⊎ (◌≡◌ {A = Offer (ℕ × ℕ) Recovery Packet} (check (stream, snbase) c) (check k x))
-          from k x h (no n) = inl (record-was-held G r v c.content.payload hr hp k x h n)
+          from : (k : ℕ × ℕ) (x : Recovery) (h : Held w with_record k x) → Dec (h.at ≡ r) → Held w s k x ⊎ (◌≡◌ {A = Offer (ℕ × ℕ) Recovery Packet} (check (stream, snbase) c) (check k x))
+          from k x h (no n) = inl (record_was-held G r v c.content.payload hr hp k x h n)
           from k x h (yes z) =
               let b : (stream, snbase) ≡ k = rw (z, record_same G r v c.content.payload hr hp) at h.names in
-              let y : c ≡ x = sym (recovery_same G r v c.content.payload hr hp) ∙ ap (recovery_at w with-record) (sym z) ∙ h.carries in
+              let y : c ≡ x = sym (recovery_same G r v c.content.payload hr hp) ∙ ap (recovery_at w with_record) (sym z) ∙ h.carries in
               inr (ap₂ check b y)
 
     -- the free record of lowest index, where there is one
-    free-record : u < rows w → (first_free (recount w a u) s < rows w) × (is_in_use w s (first_free (recount w a u) s) ≡ false)
-    free-record h =
+    free_record : u < rows w → (first_free (recount w a u) s < rows w) × (is_in_use w s (first_free (recount w a u) s) ≡ false)
+    free_record h =
         let z = count-not (is_in_use w s) (up_to (rows w)) in
         let y = length-up_to (rows w) in
         let f = first-kept (λ r. not (is_in_use w s r)) (rows w) (up_to (rows w)) (omega (arith, G.in_use)) in
         (up_to-lt (rows w) (first_free (recount w a u) s) f.0, not-true (is_in_use w s (first_free (recount w a u) s)) f.1)
 
     -- whatever is missing of its group, it is taken in, if there is room where two or more are
-    pub take-parity : (least_missing ≤ length (missing s.marks (group w stream snbase)) → u < rows w)
+    pub take_parity_lem : (least_missing ≤ length (missing s.marks (group w stream snbase)) → u < rows w)
         → Taken w a s (check (stream, snbase) c) 0 (take_parity (missing s.marks (group w stream snbase)) stream snbase c (at w a u s 0 0))
-    take-parity room = go (missing s.marks (group w stream snbase)) refl
+    take_parity_lem room = go (missing s.marks (group w stream snbase)) refl
       where
         go : (m : List ℕ) → missing s.marks (group w stream snbase) ≡ m → Taken w a s (check (stream, snbase) c) 0 (take_parity m stream snbase c (at w a u s 0 0))
         go [] e = take_none e
@@ -215,7 +215,7 @@ module _ {w : Window} (L : Limits w) {a u : ℕ} {s : Store} (G : Good w a u s) 
             by false bad = take-spoilt i e bad
         go (i ∷ j ∷ m) e =
             let z : least_missing ≤ length (missing s.marks (group w stream snbase)) = omega (arith, ap length e) in
-            let f = free-record (room z) in
+            let f = free_record (room z) in
             take_more (first_free (recount w a u) s) f.0 f.1 z
 
 -- ---- settling
@@ -254,7 +254,7 @@ settles {w} {a} {s} {p} {more} {y} t =
     rests-at (rounds round n y) (rounds-keep (code w) (engine w (a + more)) n y t.working)
     (runs_then (code w) t.runs (steps-run (code w) (rounds-steps (code w) (engine w (a + more)) n y t.working)))
     (rounds-still (code w) (engine w (a + more)) n y t.working (omega arith))
-    (⊎_elim (λ e. ⊎_elim (λ z. inl (e ∙ z)) inr t.clear) (λ b. inr (spoiling-then (code w) t.runs b)) (rounds-clear (code w) (engine w (a + more)) n y t.working))
+    (⊎_elim (λ e. ⊎_elim (λ z. inl (e ∙ z)) inr t.clear) (λ b. inr (spoiling_then (code w) t.runs b)) (rounds-clear (code w) (engine w (a + more)) n y t.working))
   where
     rests-at : (z : State) → Working w (a + more) z → Runs (code w) (view w s) (p ∷ []) (view w z.store) → Still (code w) (view w z.store) → (z.spoilt ≡ 0) ⊎ Spoiling (code w) (view w s) (p ∷ [])
         → Settled w a s p more (record { answer = Done z.rebuilt z.spoilt; window = z.window; store = z.store })

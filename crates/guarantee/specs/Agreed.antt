@@ -24,7 +24,7 @@ use Rattle.calls.specs.Call.{standing_tests, parity_place_tests, offered_parity,
 use Rattle.calls.specs.Standing.{Standing, standing-good}
 use Rattle.calls.specs.Passed.{parity-passed, none_first}
 use Rattle.guarantee.specs.Ranges.{any_none}
-use Rattle.guarantee.specs.Packets.{first_cells, whole-xors}
+use Rattle.guarantee.specs.Packets.{first_cells, whole_xors}
 use Rattle.guarantee.specs.Lengths.{padded-front, Clean, zero_past, zeros_clean, padded-past, past_more, past_xors, units_le, longest-le, longest-good}
 use Rattle.guarantee.specs.View.{group-lt, content-whole, mark-one}
 use Rattle.guarantee.specs.Order.{Ordered, standing}
@@ -186,16 +186,16 @@ module _ (w : Window) (based : w.base < 2 ^ 16) (o : Outer) (stream snbase' : �
   own = parity_of w o stream snbase' s
 
   -- what it carries
-  abbrev ownRecovery : Recovery
-  ownRecovery = recovery_over w s (group w stream snbase')
+  abbrev own_recovery : Recovery
+  own_recovery = recovery_over w s (group w stream snbase')
 
   -- its SNBase is read
   own-snbase : snbase own ≡ snbase'
-  own-snbase = parity-snbase o stream w.l w.d snbase' ownRecovery fits
+  own-snbase = parity-snbase o stream w.l w.d snbase' own_recovery fits
 
   -- its recovery is read, where the window stands and the group is whole
-  own-recovery : Standing w s 0 0 → inside w stream snbase' ≡ true → any (is_missing s.marks) (group w stream snbase') ≡ false → recovery_of w.p own ≡ ownRecovery
-  own-recovery S within whole = parity-recovery o stream w.l w.d snbase' ownRecovery w.p good clean
+  own_recovery_lem : Standing w s 0 0 → inside w stream snbase' ≡ true → any (is_missing s.marks) (group w stream snbase') ≡ false → recovery_of w.p own ≡ own_recovery
+  own_recovery_lem S within whole = parity-recovery o stream w.l w.d snbase' own_recovery w.p good clean
       (xors_lt 32 (timestamp_at s) members (λ j m. stamped j (below j m)))
       (xors_lt 16 (length_at s) members (λ j m. omega (arith, units_le w.p w.p (length_at s j) (long j m), S.set_up.p-high)))
     where
@@ -211,17 +211,17 @@ module _ (w : Window) (based : w.base < 2 ^ 16) (o : Outer) (stream snbase' : �
       long : (j : ℕ) → Memᴰ j members → good_length w.p (length_at s j) ≡ true
       long j m = order.good.long j (below j m) (eq-eqb (get_or s.marks j 0) 1 (mark-one order.good j (below j m) (any_none (is_missing s.marks) members whole j m)))
 
-      good : good_length w.p ownRecovery.size ≡ true
+      good : good_length w.p own_recovery.size ≡ true
       good = longest-good w.p (length_at s) members long (group-some (record { based = based; set_up = S.set_up }) stream snbase')
 
-      past : (j : ℕ) → Memᴰ j members → zero_past ownRecovery.size (payload_at w s j) ≡ true
+      past : (j : ℕ) → Memᴰ j members → zero_past own_recovery.size (payload_at w s j) ≡ true
       past j m =
           let bytes : List ℕ = take (length_at s j) (drop (j * w.p) s.media) in
-          past_more (length bytes) ownRecovery.size (payload_at w s j) (omega (arith, length-take (length_at s j) (drop (j * w.p) s.media), longest-le (length_at s) members j m)) (padded-past w.p bytes w.p)
+          past_more (length bytes) own_recovery.size (payload_at w s j) (omega (arith, length-take (length_at s j) (drop (j * w.p) s.media), longest-le (length_at s) members j m)) (padded-past w.p bytes w.p)
 
-      clean : Clean w.p ownRecovery.size ownRecovery.content.payload
-      clean = zeros_clean w.p ownRecovery.size ownRecovery.content.payload (whole-xors w.p (content_at w s) (content-whole w s) members)
-          (past_xors w.p ownRecovery.size (content_at w s) members past)
+      clean : Clean w.p own_recovery.size own_recovery.content.payload
+      clean = zeros_clean w.p own_recovery.size own_recovery.content.payload (whole_xors w.p (content_at w s) (content-whole w s) members)
+          (past_xors w.p own_recovery.size (content_at w s) members past)
 
   -- so offered to the same window it never contradicts its group
   pub written-agrees : number_of (offered_parity stream w (parity_of w o stream snbase' s) s).answer ≢ 18
@@ -229,5 +229,5 @@ module _ (w : Window) (based : w.base < 2 ^ 16) (o : Outer) (stream snbase' : �
       let z = parity-lies stream w own s e in
       let c = contradicted w s stream own z.1 in
       let S = standing-good w s 0 0 (none_first (standing_tests w s 0 0) (none_split (standing_tests w s 0 0) (parity_tests stream w.l w.d w.p own) (parity-behind stream w own s e).0).0) in
-      let r = own-recovery S (ap (inside w stream) (sym own-snbase) ∙ z.0) (ap (λ n. any (is_missing s.marks) (group w stream n)) (sym own-snbase) ∙ c.0) in
-      true≢false (sym (recovery_self ownRecovery) ∙ ap₂ same_recovery (ap (λ n. recovery_over w s (group w stream n)) (sym own-snbase)) (sym r) ∙ c.1)
+      let r = own_recovery_lem S (ap (inside w stream) (sym own-snbase) ∙ z.0) (ap (λ n. any (is_missing s.marks) (group w stream n)) (sym own-snbase) ∙ c.0) in
+      true≢false (sym (recovery_self own_recovery) ∙ ap₂ same_recovery (ap (λ n. recovery_over w s (group w stream n)) (sym own-snbase)) (sym r) ∙ c.1)

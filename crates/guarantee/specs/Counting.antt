@@ -40,9 +40,9 @@ module _ (marks : List ℕ) where
   missing-behind (x ∷ l) r h = let s = held_first x l h in rw s.0 (missing-behind l r s.1)
 
   -- where two are missing as many members are visited as the index of the second and one more, whatever stands behind it
-  pub visits-second : (before between after : List ℕ) (i j : ℕ) → missing marks before ≡ [] → is_missing marks i ≡ true → missing marks between ≡ [] → is_missing marks j ≡ true
+  pub visits_second : (before between after : List ℕ) (i j : ℕ) → missing marks before ≡ [] → is_missing marks i ≡ true → missing marks between ≡ [] → is_missing marks j ≡ true
       → look marks (before ++ (i ∷ (between ++ (j ∷ after)))) ≡ More (length before + 1 + length between + 1)
-  visits-second before between after i j hb hi hm hj =
+  visits_second before between after i j hb hi hm hj =
       let rest = between ++ (j ∷ after) in
       let f : to_first marks rest ≡ length between + 1 = first-behind between (j ∷ after) hm ∙ rw hj in
       let t : to_second marks (before ++ (i ∷ rest)) ≡ length before + 1 + length between + 1 = let e : to_second marks (i ∷ rest) ≡ suc (to_first marks rest) = rw hi in omega (arith, second-behind before (i ∷ rest) hb, e, f) in
@@ -54,15 +54,15 @@ module _ (marks : List ℕ) where
   first-all (x ∷ g) h = let s = held_first x g h in rw s.0 (ap suc (first-all g s.1))
 
   -- where none or one is missing all members are visited
-  pub visits-all-none : (g : List ℕ) → missing marks g ≡ [] → look marks g ≡ None (length g)
-  visits-all-none g h = rw (h, second_none g h)
+  pub visits_all-none : (g : List ℕ) → missing marks g ≡ [] → look marks g ≡ None (length g)
+  visits_all-none g h = rw (h, second_none g h)
     where
       second_none : (l : List ℕ) → missing marks l ≡ [] → to_second marks l ≡ length l
       second_none [] z = refl
       second_none (x ∷ l) z = let s = held_first x l z in rw s.0 (ap suc (second_none l s.1))
 
-  pub visits-all-one : (before after : List ℕ) (i : ℕ) → missing marks before ≡ [] → is_missing marks i ≡ true → missing marks after ≡ [] → look marks (before ++ (i ∷ after)) ≡ One i (length before + 1 + length after)
-  visits-all-one before after i hb hi ha =
+  pub visits_all-one : (before after : List ℕ) (i : ℕ) → missing marks before ≡ [] → is_missing marks i ≡ true → missing marks after ≡ [] → look marks (before ++ (i ∷ after)) ≡ One i (length before + 1 + length after)
+  visits_all-one before after i hb hi ha =
       let e : to_second marks (i ∷ after) ≡ suc (length after) = rw hi (ap suc (first-all after ha)) in
       let t : to_second marks (before ++ (i ∷ after)) ≡ length before + 1 + length after = omega (arith, second-behind before (i ∷ after) hb, e) in
       let m : missing marks (before ++ (i ∷ after)) ≡ i ∷ [] = missing-behind before (i ∷ after) hb ∙ rw hi (ap (λ (l : List ℕ). i ∷ l) ha) in
@@ -79,8 +79,8 @@ pub third_missing : look (1 ∷ 1 ∷ 0 ∷ 1 ∷ []) (0 ∷ 1 ∷ 2 ∷ 3 ∷ [
 third_missing = refl
 
 -- the first and the third missing: the last is not visited
-pub third_is-second : look (0 ∷ 1 ∷ 0 ∷ 1 ∷ []) (0 ∷ 1 ∷ 2 ∷ 3 ∷ []) ≡ More 3
-third_is-second = refl
+pub third_is_second : look (0 ∷ 1 ∷ 0 ∷ 1 ∷ []) (0 ∷ 1 ∷ 2 ∷ 3 ∷ []) ≡ More 3
+third_is_second = refl
 
 -- all missing: two are visited
 pub four_missing : look (0 ∷ 0 ∷ 0 ∷ 0 ∷ []) (0 ∷ 1 ∷ 2 ∷ 3 ∷ []) ≡ More 2

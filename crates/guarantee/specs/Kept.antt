@@ -16,7 +16,7 @@ use Rattle.guarantee.specs.View.{Limits, group-lt, code, check_at, packet_at, vi
 use Rattle.guarantee.specs.Demand3.{Offer, Stretch, Fills, content_sent, recovery_sent, Unaltered, mark_at}
 use Rattle.guarantee.specs.Start.{Holds}
 use Rattle.guarantee.specs.Sent.{sent, seen, sent-whole}
-use Rattle.guarantee.specs.Names.{Got, check-in, got-check, got-unaltered}
+use Rattle.guarantee.specs.Names.{Got, check_in, got-check, got-unaltered}
 use Rattle.guarantee.specs.Lying.{recovery_self, Lying}
 
 -- ---- a store that holds what was sent
@@ -57,7 +57,7 @@ module _ {w : Window} (L : Limits w) {t : Stretch} (F : Fills w t) {a u : ℕ} {
       let among : (p : Theory.Offer (ℕ × ℕ) Recovery Packet) → Theory.Plus (Theory.Has (view w s)) b.taken p → Theory.Unaltered (code w) (sent w t) p =
       λ p m. got-unaltered L F G ok H p (⊎_elim inl (λ n. inr (b.among p n)) m) in
       let v = got-check L F G ok H b.key b.carries (inr b.offered) in
-      let q = recovery_agrees w t b.then (run-sent w t s b.taken among b.then b.runs) b.key.0 b.key.1 (check-in L F G ok b.key b.carries (inr b.offered)).0 b.whole in
+      let q = recovery_agrees w t b.then (run-sent w t s b.taken among b.then b.runs) b.key.0 b.key.1 (check_in L F G ok b.key b.carries (inr b.offered)).0 b.whole in
       true≢false (sym (recovery_self b.carries) ∙ ap (λ z. same_recovery z b.carries) (v ∙ sym q) ∙ b.differs)
 
 module _ {w : Window} (L : Limits w) {t : Stretch} (F : Fills w t) {a u : ℕ} {s : Store} (G : Good w a u s) (H : Holds w t s) {offers : List Offer}
@@ -75,8 +75,8 @@ module _ {w : Window} (L : Limits w) {t : Stretch} (F : Fills w t) {a u : ℕ} {
   present-sent i h e = run-sent w t s (map (seen w) offers) unaltered y runs i h (rw e)
 
   -- and all that the store holds is unaltered again
-  pub holds-again : Holds w t y
-  holds-again = record {
+  pub holds_again : Holds w t y
+  holds_again = record {
     media = present-sent;
     parity = λ r h e. let k = check_at y r in
         let v = recovery_at w y r in

@@ -9,7 +9,7 @@ use Rattle.answer.specs.declared.Answer.TheVariants.{Done, Refused}
 use Rattle.answer.specs.Number.{number_of}
 use Rattle.answer.specs.First.{first}
 use Rattle.sequence.specs.Lists.{up_to, length-up_to}
-use Rattle.sequence.specs.Wrap.{number_at, numberAt-onward}
+use Rattle.sequence.specs.Wrap.{number_at, number_at-onward}
 use Rattle.rtp.specs.Rtp.{sequence_number}
 use Rattle.rtp.specs.Fec.{column, row, snbase}
 use Rattle.window.specs.declared.Window.{Window}
@@ -30,7 +30,7 @@ use Rattle.guarantee.specs.Accepted.{Settled}
 use Rattle.guarantee.specs.Lying.{recovery_self, media-believed, parity-lies, contradicted}
 use Rattle.guarantee.specs.Offers.{parity_seen, media-kept, parity-kept, media-accepted, parity-accepted}
 use Rattle.guarantee.specs.Sent.{seen, parity-read}
-use Rattle.guarantee.specs.Kept.{recovery_agrees, holds-again}
+use Rattle.guarantee.specs.Kept.{recovery_agrees, holds_again}
 use Rattle.guarantee.specs.Opening.{opening, opened-start}
 use Rattle.guarantee.specs.Demand3.{Port, mediaPort, columnPort, rowPort, Offer, call_of, offered, Stretch, Fills, content_sent, UnalteredMedia, UnalteredParity, UnalteredOn, Unaltered, mark_at}
 use Rattle.guarantee.specs.Start.{Start, SameSetUp}
@@ -38,7 +38,7 @@ use Rattle.guarantee.specs.Theorem.{demand3-from}
 use Rattle.guarantee.specs.Moving.{onward, slot_of}
 use Rattle.guarantee.specs.Life.{Event, offer, move, Life, born, moving, after_one, after, Feed, Feeds, has_place, under, Fair, AllFair, Lived, ClaimOutside, ClaimLife, ClaimBelieved, ClaimOneEach, next_gets, ClaimThen}
 use Rattle.guarantee.specs.Slots.{map_at, slot_read}
-use Rattle.guarantee.specs.Moved.{move_ways, move-done, move-within, moved-set-up, moved-start, leaving-sent}
+use Rattle.guarantee.specs.Moved.{move_ways, move-done, move-within, moved-set_up, moved-start, leaving-sent}
 
 -- ---- an offer, whether there is room for it or not
 
@@ -48,44 +48,44 @@ Again w t x = SameSetUp x.window w × Start x.window t x.store
 
 module _ {w : Window} {t : Stretch} {s : Store} (S : Start w t s) where
   -- an accepted offer of an unaltered packet leaves one
-  settled-again : (o : Offer) → Unaltered w t o → {more : ℕ} {x : Outcome} → Settled w w.present s (seen w o) more x → Again w t x
-  settled-again o ok {x = x} z = rw z.window (
+  settled_again : (o : Offer) → Unaltered w t o → {more : ℕ} {x : Outcome} → Settled w w.present s (seen w o) more x → Again w t x
+  settled_again o ok {x = x} z = rw z.window (
     refl,
     record {
       base-fits = S.base-fits;
       fills = fills-on w z.present z.used t S.fills;
       passes = none_first (standing_tests (recount w z.present z.used) x.store 0 0) (stands w z.present z.used x.store (set_up_passes w s S.passes) z.order);
       holds = holds_on w z.present z.used t
-          (holds-again (start-limits S) S.fills (start-ordered S).good S.holds {offers = o ∷ []} (λ p m. rw (Memᴰ.eq_of_singleton m) ok) x.store z.runs);
+          (holds_again (start-limits S) S.fills (start-ordered S).good S.holds {offers = o ∷ []} (λ p m. rw (Memᴰ.eq_of_singleton m) ok) x.store z.runs);
     },
   )
 
   -- a fair media offer leaves one
-  media-again : (g : List ℕ) → UnalteredMedia w t g ⊎ (number_of (offered_media w g s).answer ≢ 0) → Again w t (offered_media w g s)
-  media-again g fair = go (ℕ_discrete (first (media_offer_tests w g s)) 0)
+  media_again : (g : List ℕ) → UnalteredMedia w t g ⊎ (number_of (offered_media w g s).answer ≢ 0) → Again w t (offered_media w g s)
+  media_again g fair = go (ℕ_discrete (first (media_offer_tests w g s)) 0)
     where
       go : Dec (first (media_offer_tests w g s) ≡ 0) → Again w t (offered_media w g s)
       go (yes e) =
           let z = media-accepted w S.base-fits w.present w.in_use s g e in
-          settled-again (record { port = mediaPort; datagram = g }) (⊎_elim (λ u. u) (λ no. absurd (no (ap number_of z.answer))) fair) z
+          settled_again (record { port = mediaPort; datagram = g }) (⊎_elim (λ u. u) (λ no. absurd (no (ap number_of z.answer))) fair) z
       go (no n) = rw (media-kept w g s n) (refl, S)
 
   -- so does a parity offer
-  parity-again : (o : Offer) (stream : ℕ) → stream ≤ 1 → seen w o ≡ parity_seen w stream o.datagram → Unaltered w t o ⊎ (number_of (offered_parity stream w o.datagram s).answer ≢ 0)
+  parity_again : (o : Offer) (stream : ℕ) → stream ≤ 1 → seen w o ≡ parity_seen w stream o.datagram → Unaltered w t o ⊎ (number_of (offered_parity stream w o.datagram s).answer ≢ 0)
       → Again w t (offered_parity stream w o.datagram s)
-  parity-again o stream hs same fair = go (ℕ_discrete (first (parity_offer_tests w stream o.datagram s)) 0)
+  parity_again o stream hs same fair = go (ℕ_discrete (first (parity_offer_tests w stream o.datagram s)) 0)
     where
       go : Dec (first (parity_offer_tests w stream o.datagram s) ≡ 0) → Again w t (offered_parity stream w o.datagram s)
       go (yes e) =
           let z = parity-accepted w S.base-fits w.present w.in_use s o.datagram stream hs e in
-          settled-again o (⊎_elim (λ u. u) (λ no. absurd (no (ap number_of z.answer))) fair) (subst (λ q. Settled w w.present s q 0 (offered_parity stream w o.datagram s)) (sym same) z)
+          settled_again o (⊎_elim (λ u. u) (λ no. absurd (no (ap number_of z.answer))) fair) (subst (λ q. Settled w w.present s q 0 (offered_parity stream w o.datagram s)) (sym same) z)
       go (no n) = rw (parity-kept stream w o.datagram s n) (refl, S)
 
   -- on each port
-  offer-again : (p : Port) (g : List ℕ) → UnalteredOn w t p g ⊎ (number_of (call_of p w g s).answer ≢ 0) → Again w t (call_of p w g s)
-  offer-again mediaPort g fair = media-again g fair
-  offer-again columnPort g fair = parity-again (record { port = columnPort; datagram = g }) column (omega arith) refl fair
-  offer-again rowPort g fair = parity-again (record { port = rowPort; datagram = g }) row (omega arith) refl fair
+  offer_again : (p : Port) (g : List ℕ) → UnalteredOn w t p g ⊎ (number_of (call_of p w g s).answer ≢ 0) → Again w t (call_of p w g s)
+  offer_again mediaPort g fair = media_again g fair
+  offer_again columnPort g fair = parity_again (record { port = columnPort; datagram = g }) column (omega arith) refl fair
+  offer_again rowPort g fair = parity_again (record { port = rowPort; datagram = g }) row (omega arith) refl fair
 
 -- ---- a window over its feed
 
@@ -99,7 +99,7 @@ advanced_twice w v a by e =
     let p = v.present - 0 in
     let u = v.in_use in
     ap (λ z. recount (advanced by 0 z) p u) e
-    ∙ (λ k. record { base = numberAt-onward width w.base a by k; ssrc = w.ssrc; l = w.l; d = w.d; p = w.p; n = w.n; k = w.k; present = p; in_use = u })
+    ∙ (λ k. record { base = number_at-onward width w.base a by k; ssrc = w.ssrc; l = w.l; d = w.d; p = w.p; n = w.n; k = w.k; present = p; in_use = u })
 
 -- a feed fills every window of its P, from any packet on
 feeds_fill : {p : ℕ} {feed : Feed} → Feeds p feed → (v : Window) → v.p ≡ p → (f : ℕ → ℕ) → Fills v (λ i. feed (f i))
@@ -119,7 +119,7 @@ module _ {w : Window} {feed : Feed} (F : Feeds w.p feed) (x : Life) (now : Lived
   -- after an offer
   lived-offer : (o : Offer) → Fair feed x (offer o) → Lived w feed (after_one x (offer o))
   lived-offer o fair =
-      let z = offer-again now.start o.port o.datagram fair in
+      let z = offer_again now.start o.port o.datagram fair in
       lived (after_one x (offer o)) (set_up_then (offered o x.window x.store).window x.window (advanced (length x.gone) 0 w) z.0 now.set_up) z.1 now.left
 
   -- after a move that was refused: nothing left
@@ -147,7 +147,7 @@ module _ {w : Window} {feed : Feed} (F : Feeds w.p feed) (x : Life) (now : Lived
     -- the base moved on, from the opening's by all that left
     base_moved : SameSetUp next.window (advanced (length (x.gone ++ slots)) 0 w)
     base_moved = subst (λ n. SameSetUp next.window (advanced n 0 w)) (sym length-gone)
-        (set_up_then next.window (advanced by 0 x.window) (advanced (length x.gone + by) 0 w) (moved-set-up now.start by hb out sizes) (advanced_twice w x.window (length x.gone) by now.set_up))
+        (set_up_then next.window (advanced by 0 x.window) (advanced (length x.gone + by) 0 w) (moved-set_up now.start by hb out sizes) (advanced_twice w x.window (length x.gone) by now.set_up))
 
     -- the stretch that the window stands over moved on
     moved-over : onward by (under feed x) ≡ onward (length (x.gone ++ slots)) feed
@@ -157,8 +157,8 @@ module _ {w : Window} {feed : Feed} (F : Feeds w.p feed) (x : Life) (now : Lived
         same i = omega (arith, length-gone)
 
     -- and it is a start for that
-    moved-starts : Start next.window (onward (length (x.gone ++ slots)) feed) next.store
-    moved-starts = subst (λ f. Start next.window f next.store) moved-over
+    moved_starts : Start next.window (onward (length (x.gone ++ slots)) feed) next.store
+    moved_starts = subst (λ f. Start next.window f next.store) moved-over
         (moved-start now.start by hb out sizes (feeds_fill F next.window (ap (λ v. v.p) base_moved) (λ i. length x.gone + (by + i))))
 
     -- what leaves is what was sent, by the opening's base
@@ -167,7 +167,7 @@ module _ {w : Window} {feed : Feed} (F : Feeds w.p feed) (x : Life) (now : Lived
         let e : get_or slots i [] ≡ leaving x.window x.store i = map_at (slot_of x.window next) [] by i h ∙ slot_read x.window x.store by out sizes i h in
         let a = length x.gone in
         let p : media_packet (number_at width x.window.base i) x.window.ssrc (content_sent x.window (under feed x) i) ≡ media_packet (number_at width w.base (a + i)) w.ssrc (content_sent w feed (a + i)) =
-        ap (λ v. media_packet (number_at width v.base i) v.ssrc (content_sent v (under feed x) i)) now.set_up ∙ ap (λ n. media_packet n w.ssrc (content_sent w feed (a + i))) (numberAt-onward width w.base a i) in
+        ap (λ v. media_packet (number_at width v.base i) v.ssrc (content_sent v (under feed x) i)) now.set_up ∙ ap (λ n. media_packet n w.ssrc (content_sent w feed (a + i))) (number_at-onward width w.base a i) in
         ⊎_elim (λ z. inl (e ∙ z.1)) (λ z. inr (e ∙ z.1 ∙ p)) (leaving-sent now.start by hb i h)
 
     -- with what left before
@@ -183,7 +183,7 @@ module _ {w : Window} {feed : Feed} (F : Feeds w.p feed) (x : Life) (now : Lived
 
     -- so the life goes on
     lived-done : Lived w feed (record { window = next.window; store = next.store; gone = x.gone ++ slots })
-    lived-done = lived (record { window = next.window; store = next.store; gone = x.gone ++ slots }) base_moved moved-starts slots-sent
+    lived-done = lived (record { window = next.window; store = next.store; gone = x.gone ++ slots }) base_moved moved_starts slots-sent
 
   -- after any move
   lived-move : (by : ℕ) (out sizes : List ℕ) → Lived w feed (after_one x (move by out sizes))

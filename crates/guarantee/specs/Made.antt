@@ -6,7 +6,7 @@ use mathlib.Core.List.{List, [], ◌∷◌, ◌++◌, Memᴰ}
 use Rattle.std.proofs.Math.Decide.{ℕ_discrete}
 use Rattle.answer.specs.declared.Answer.TheVariants.{Done, Refused}
 use Rattle.answer.specs.First.{first}
-use Rattle.sequence.specs.Wrap.{number_at, numberAt-ahead}
+use Rattle.sequence.specs.Wrap.{number_at, number_at-ahead}
 use Rattle.rtp.specs.Rtp.{rtp_header_size, sequence_number}
 use Rattle.rtp.specs.Fec.{parity_header_size, column, row, snbase}
 use Rattle.window.specs.declared.Window.{Window}
@@ -21,7 +21,7 @@ use Rattle.calls.specs.Standing.{Standing}
 use Rattle.calls.specs.Passed.{media-passed, parity-passed, read-passed, write_passed}
 use Rattle.peel.specs.Group as Peel
 use Rattle.peel.specs.Peel as Theory
-use Rattle.guarantee.specs.Packets.{Whole, Packet, xored, zeros, packet_of, content_from, length-first, content_from_lem, packet-content, packet-xor, packet-total, whole-xor, whole-xors}
+use Rattle.guarantee.specs.Packets.{Whole, Packet, xored, zeros, packet_of, content_from, length-first, content_from_lem, packet-content, packet-xor, packet-total, whole-xor, whole_xors}
 use Rattle.guarantee.specs.Lengths.{length-padded}
 use Rattle.guarantee.specs.View.{code, packet_at, view, slot-present, slot_is, Good, content-whole, recovery_whole, mark-one}
 use Rattle.guarantee.specs.Order.{standing}
@@ -129,7 +129,7 @@ module _ (o : Offer) (w : Window) (s : Store) (M : Moved (seen w o) w s (offered
       whole j = length-first w.p _
 
       long : Whole w.p sum
-      long = whole-xors w.p others whole g
+      long = whole_xors w.p others whole g
 
   -- what the theory knows is due
   known-due : {i : ℕ} {x : Packet} → Theory.Known (code w) R i x → DueAt i x
@@ -205,7 +205,7 @@ read-unaltered w t s number c out based ssrc-fits number_fits H e =
         ssrc = w.ssrc;
         in_window = q.in_window;
         ssrc-fits = ssrc-fits;
-        is = ap (λ n. media_packet n w.ssrc (content_at w s (position w number))) (sym (numberAt-ahead width w.base (omega (arith, based)) number number_fits))
+        is = ap (λ n. media_packet n w.ssrc (content_at w s (position w number))) (sym (number_at-ahead width w.base (omega (arith, based)) number number_fits))
             ∙ ap (media_packet (number_at width w.base (position w number)) w.ssrc) (H.media (position w number) q.in_window m);
       };
       written = refl;

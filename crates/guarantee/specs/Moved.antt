@@ -30,8 +30,8 @@ use Rattle.guarantee.specs.Demand3.{Offer, Stretch, Fills, content_sent, mark_at
 use Rattle.guarantee.specs.Start.{Holds, Start, GivenFrom, SameSetUp}
 use Rattle.guarantee.specs.Theorem.{demand3-from, demand3-same-from}
 use Rattle.guarantee.specs.Moving.{onward, GivenMove, ClaimMove, ClaimLeft, cell_at, empty_cell, ClaimPositions, bytes_at, ClaimReleased, ClaimEmptied, GivenBetween, ClaimBetween, ClaimSameBetween}
-use Rattle.guarantee.specs.Onward.{leaving-present, cell-at, cell-new, onward-good, onward-waits, onward-holds}
-use Rattle.guarantee.specs.Released.{Released, release-below, released-cell, released-row, released-clear, released-waits, released-holds}
+use Rattle.guarantee.specs.Onward.{leaving-present, cell_at_lem, cell_new, onward-good, onward-waits, onward-holds}
+use Rattle.guarantee.specs.Released.{Released, release_below_lem, released_cell, released-row, released-clear, released-waits, released-holds}
 use Rattle.guarantee.specs.Slots.{slot_read}
 
 -- ---- a move, carried out or refused
@@ -74,7 +74,7 @@ move-within w by s out sizes e =
 module _ {w : Window} {t : Stretch} {s : Store} (S : Start w t s) (by : ℕ) (hb : by ≤ w.n) where
   -- the parity behind is released
   released : Released w w.present s by (rows w) (release_below (behind by) (rows w) (at w w.present w.in_use s 0 0))
-  released = release-below (start-ordered S).good by (rows w) (omega arith)
+  released = release_below_lem (start-ordered S).good by (rows w) (omega arith)
 
   -- what leaves is the first packets present, also of what is released
   leaves : leaving_count s by ≡ count (is_present released.store.marks) (up_to by)
@@ -92,9 +92,9 @@ module _ {w : Window} {t : Stretch} {s : Store} (S : Start w t s) (by : ℕ) (hb
   shifted-holds = onward-holds (start-limits S) released.good by hb (released-clear released) (released-holds released S.holds)
 
   -- the base moved on, and the other set_up numbers stay
-  pub moved-set-up : (out sizes : List ℕ) → SameSetUp (moved_on w by s out sizes).window (advanced by 0 w)
+  pub moved-set_up : (out sizes : List ℕ) → SameSetUp (moved_on w by s out sizes).window (advanced by 0 w)
   unfolding release_behind
-  moved-set-up out sizes = subst (λ x. SameSetUp (advanced by (leaving_count s by) x.window) (advanced by 0 w)) (sym released.is) refl
+  moved-set_up out sizes = subst (λ x. SameSetUp (advanced by (leaving_count s by) x.window) (advanced by 0 w)) (sym released.is) refl
 
   -- fewer packets are present by those that left
   moved-present : (out sizes : List ℕ) → (moved_on w by s out sizes).window.present ≡ w.present - leaving_count s by
@@ -121,8 +121,8 @@ module _ {w : Window} {t : Stretch} {s : Store} (S : Start w t s) (by : ℕ) (hb
   moved-cells out sizes i =
       let C : State → Type 0 = λ x. (i < w.n - by → cell_at w (shifted w by x.store) i ≡ cell_at w s (by + i)) × (i < by → cell_at w (shifted w by x.store) (w.n - by + i) ≡ empty_cell w) in
       subst C (sym released.is) (
-        λ h. cell-at (start-limits S) released.good by hb (released-clear released) i h ∙ released-cell released (by + i),
-        cell-new (start-limits S) released.good by hb (released-clear released) i,
+        λ h. cell_at_lem (start-limits S) released.good by hb (released-clear released) i h ∙ released_cell released (by + i),
+        cell_new (start-limits S) released.good by hb (released-clear released) i,
       )
 
   -- each record was released, or is as it was
@@ -163,7 +163,7 @@ module _ {w : Window} {t : Stretch} {s : Store} {by : ℕ} {x : Moved} (G : Give
 pub move_start : ClaimMove
 move_start w t s by x G =
     subst (λ y. Fills y.window (onward by t) → SameSetUp y.window (advanced by 0 w) × Start y.window (onward by t) y.store) (carried-out G)
-    (λ F. (moved-set-up G.start by (within G) G.out G.sizes, moved-start G.start by (within G) G.out G.sizes F)) G.fills
+    (λ F. (moved-set_up G.start by (within G) G.out G.sizes, moved-start G.start by (within G) G.out G.sizes F)) G.fills
 
 -- it writes what was sent
 pub move-left : ClaimLeft

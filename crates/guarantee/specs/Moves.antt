@@ -18,11 +18,11 @@ use Rattle.calls.specs.Content.{Content, Recovery, xor_contents, content_at, rec
 use Rattle.calls.specs.State.{put, put_record}
 use Rattle.peel.specs.Group.{total, None, One, one-count, none-count, none_insert}
 use Rattle.peel.specs.Peel.{gone, miss, Keeps, Full, Rebuild, Spoilt, Step}
-use Rattle.guarantee.specs.Ranges.{count-raise, count-keep}
-use Rattle.guarantee.specs.Packets.{Whole, xored, zeros, packet_of, content_from_lem, packet-xor, packet-total, whole-xor, whole-xors}
+use Rattle.guarantee.specs.Ranges.{count_raise, count-keep}
+use Rattle.guarantee.specs.Packets.{Whole, xored, zeros, packet_of, content_from_lem, packet-xor, packet-total, whole-xor, whole_xors}
 use Rattle.guarantee.specs.Lengths.{Clean, fits-good, fits-clean}
 use Rattle.guarantee.specs.View.{Limits, group_of, code, check_at, member-lt, packet_at, slot_at, Held, view, slot-present, slot-missing, miss-count, Good, Missing, content-whole}
-use Rattle.guarantee.specs.Changes.{fill-keeps, fill-new, put-filled, put-others, put-held, put-was-held, put-good, put-missing, record-slot, record-held, record-was-held, record_same, record-other, record-good}
+use Rattle.guarantee.specs.Changes.{fill_keeps, fill_new, put-filled, put-others, put-held, put-was-held, put-good, put-missing, record_slot, record_held, record_was-held, record_same, record_other, record_good_lem}
 
 -- ---- the one missing member of a group
 
@@ -99,7 +99,7 @@ module _ (w : Window) (s : Store) where
       inner j m = within j (inside j (mem_insert j o.left o.at o.right m))
 
       long : Whole w.p held
-      long = whole-xors w.p (content_at w s) (content-whole w s) (present s.marks g)
+      long = whole_xors w.p (content_at w s) (content-whole w s) (present s.marks g)
 
   -- a group with one member missing is solved
   pub solved : (g : List ℕ) → ((j : ℕ) → Memᴰ j g → j < w.n) → (v : Content) → Whole w.p v → (i : ℕ) → missing s.marks g ≡ i ∷ [] → Solved w s g v i
@@ -147,7 +147,7 @@ module _ {w : Window} {s : Store} (k : ℕ × ℕ) (v : Recovery) (i : ℕ) (q :
 
     -- every packet is kept
     keeps : Keeps (view w s) (view w after)
-    keeps = fill-keeps (view w s) (view w after) i _ (slot-missing w s i q.empty) filled others
+    keeps = fill_keeps (view w s) (view w after) i _ (slot-missing w s i q.empty) filled others
 
     -- after a rebuild the store is in order, with one packet more
     pub rebuild-good : Good w (a + 1) u (rebuilt_in w s (group_of w k) v.content i)
@@ -164,11 +164,11 @@ module _ {w : Window} {s : Store} (k : ℕ × ℕ) (v : Recovery) (i : ℕ) (q :
         (none_insert (miss (view w after)) q.left i q.right (ap gone filled) (λ j m. ap gone (keeps j _ (q.rest j m))))
 
     -- and it is a step, by check k, which is one of the checks H; the store need hold only the others
-    pub step-rebuild : (H : ℕ × ℕ → Recovery → Type 0) → H k v → ((l : ℕ × ℕ) (x : Recovery) → Held w s l x → H l x) → ((l : ℕ × ℕ) (x : Recovery) → H l x → Held w s l x ⊎ (l ≡ k))
+    pub step_rebuild : (H : ℕ × ℕ → Recovery → Type 0) → H k v → ((l : ℕ × ℕ) (x : Recovery) → Held w s l x → H l x) → ((l : ℕ × ℕ) (x : Recovery) → H l x → Held w s l x ⊎ (l ≡ k))
         → Step (code w) (record { slot = slot_at w s; held = H }) (view w (rebuilt_in w s (group_of w k) v.content i))
-    step-rebuild H held sub sup = record {
+    step_rebuild H held sub sup = record {
       keeps = keeps;
-      new = λ j y e. ⊎_elim inl (λ z. inr (k, v, rw (← z.0, ← z.1) (rebuilds H held), ap ((code w).fits v) (sym z.1) ∙ fits-packet ∙ ok)) (fill-new (view w s) (view w after) i (packet_of content) (slot-missing w s i q.empty) filled others j y e);
+      new = λ j y e. ⊎_elim inl (λ z. inr (k, v, rw (← z.0, ← z.1) (rebuilds H held), ap ((code w).fits v) (sym z.1) ∙ fits-packet ∙ ok)) (fill_new (view w s) (view w after) i (packet_of content) (slot-missing w s i q.empty) filled others j y e);
       sub = λ l y h. sub l y (put-was-held G i content q.below clean l y h);
       release = λ l y h. ⊎_elim (λ z. inl (put-held G i content q.below clean l y z)) (λ z. inr (inl (rw z rebuild-full))) (sup l y h);
     }
@@ -189,20 +189,20 @@ module _ {w : Window} {a u : ℕ} {s : Store} (G : Good w a u s) (r : ℕ) (hr :
   freed-blank = record_same G r blank (replicate w.p 0) hr size
 
   -- so it is not in use
-  freed-off : is_in_use w (freed w s r) r ≡ false
-  freed-off = rw freed-blank
+  freed_off : is_in_use w (freed w s r) r ≡ false
+  freed_off = rw freed-blank
 
   -- a record that is still in use is another
   pub freed-other : (q : ℕ) → is_in_use w (freed w s r) q ≡ true → q ≢ r
-  freed-other q e z = true≢false (sym e ∙ ap (is_in_use w (freed w s r)) z ∙ freed-off)
+  freed-other q e z = true≢false (sym e ∙ ap (is_in_use w (freed w s r)) z ∙ freed_off)
 
   -- the others are as they were
   pub freed-same : (q : ℕ) → q ≢ r → record_at (freed w s r) q ≡ record_at s q
-  freed-same = record-other G r blank (replicate w.p 0) hr size
+  freed-same = record_other G r blank (replicate w.p 0) hr size
 
   -- one record fewer is in use
   freed-count : u ≡ suc (count (is_in_use w (freed w s r)) (up_to (rows w)))
-  freed-count = G.in_use ∙ count-raise (is_in_use w (freed w s r)) (is_in_use w s) (rows w) r hr freed-off used (λ q n. rw (freed-same q n))
+  freed-count = G.in_use ∙ count_raise (is_in_use w (freed w s r)) (is_in_use w s) (rows w) r hr freed_off used (λ q n. rw (freed-same q n))
 
   -- so the count goes down
   pub freed-fewer : u - 1 < u
@@ -210,23 +210,23 @@ module _ {w : Window} {a u : ℕ} {s : Store} (G : Good w a u s) (r : ℕ) (hr :
 
   -- and the store stays in order
   pub freed-good : Good w a (u - 1) (freed w s r)
-  freed-good = record-good G r blank (replicate w.p 0) hr size (u - 1) (omega arith) (λ e. absurd (true≢false (sym e))) (λ e. absurd (true≢false (sym e))) (λ e. absurd (true≢false (sym e))) (omega (arith, freed-count))
+  freed-good = record_good_lem G r blank (replicate w.p 0) hr size (u - 1) (omega arith) (λ e. absurd (true≢false (sym e))) (λ e. absurd (true≢false (sym e))) (λ e. absurd (true≢false (sym e))) (omega (arith, freed-count))
 
   -- no slot changes
   slot : (i : ℕ) → slot_at w (freed w s r) i ≡ slot_at w s i
-  slot = record-slot G r blank (replicate w.p 0) hr size
+  slot = record_slot G r blank (replicate w.p 0) hr size
 
   -- letting go of a check that is full or spoilt is a step
-  pub step-free : Full (code w) (view w (freed w s r)) (check_at s r) ⊎ Spoilt (code w) (view w s) (check_at s r) (recovery_at w s r) → Step (code w) (view w s) (view w (freed w s r))
-  step-free why = record {
+  pub step_free : Full (code w) (view w (freed w s r)) (check_at s r) ⊎ Spoilt (code w) (view w s) (check_at s r) (recovery_at w s r) → Step (code w) (view w s) (view w (freed w s r))
+  step_free why = record {
     keeps = λ i x e. slot i ∙ e;
     new = λ i x e. inl (sym (slot i) ∙ e);
-    sub = λ k x h. record-was-held G r blank (replicate w.p 0) hr size k x h (freed-other h.at h.used);
+    sub = λ k x h. record_was-held G r blank (replicate w.p 0) hr size k x h (freed-other h.at h.used);
     release = λ k x h. go k x h (ℕ_discrete h.at r);
   }
     where
       go : (k : ℕ × ℕ) (x : Recovery) (h : Held w s k x) → Dec (h.at ≡ r) → Held w (freed w s r) k x ⊎ (Full (code w) (view w (freed w s r)) k ⊎ Spoilt (code w) (view w s) k x)
-      go k x h (no n) = inl (record-held G r blank (replicate w.p 0) hr size k x h n)
+      go k x h (no n) = inl (record_held G r blank (replicate w.p 0) hr size k x h n)
       go k x h (yes e) = inr (rw (← h.names, ← h.carries, e) why)
 
   -- one with none missing is full

@@ -18,7 +18,7 @@ use Rattle.guarantee.specs.Packets.{Packet, packet_of}
 use Rattle.guarantee.specs.View.{Limits, group_of, code, Held, packet_at, view, slot_is, slot-present, Good, mark-one}
 use Rattle.guarantee.specs.Demand3.{Offer, Stretch, Fills, recovery_sent, Unaltered, Name, media_name, parity_name, name_of, names_of, Received, group_named, groups_of, listed, different, distinct_groups}
 use Rattle.guarantee.specs.Start.{Holds, media_held, parity_held, held_and}
-use Rattle.guarantee.specs.Sent.{sent, seen, check-sent, check-carries, media-carries, position-number, media-name, name-media, check-name, name-check}
+use Rattle.guarantee.specs.Sent.{sent, seen, check-sent, check-carries, media-carries, position-number, media_name_lem, name_media, check_name, name_check}
 
 -- ---- the different groups of a list
 
@@ -66,25 +66,25 @@ module _ {w : Window} (L : Limits w) {t : Stretch} (F : Fills w t) {a u : ℕ} {
   -- ---- from the theory to the names
 
   -- a media packet lies in the window, and its name is received
-  pub media-in : (i : ℕ) (x : Packet) → Got w s offers (Theory.media i x) → (i < w.n) × Received (held_and w s offers) (media_name (number_at width w.base i))
-  media-in i x (inl e) =
+  pub media_in : (i : ℕ) (x : Packet) → Got w s offers (Theory.media i x) → (i < w.n) × Received (held_and w s offers) (media_name (number_at width w.base i))
+  media_in i x (inl e) =
       let z = slot_is w s i x e in
       let there : Memᴰ i (keep (is_present s.marks) (up_to w.n)) = keep-mem (is_present s.marks) (up_to w.n) i (eq-eqb (get_or s.marks i 0) 1 (mark-one G i z.0 z.1)) (up_to-mem w.n i z.0) in
       (z.0, mathlib.Core.List.Memᴰ.append_left (names_of offers) (mathlib.Core.List.Memᴰ.append_left (parity_held w s) (mathlib.Core.List.Memᴰ.map (λ i. media_name (number_at width w.base i)) there)))
-  media-in i x (inr m) =
+  media_in i x (inr m) =
       let o = mathlib.Core.List.Memᴰ.of_map (seen w) offers m in
-      let z = media-name L F o.0.port o.0.datagram (ok o.0 o.1) i x o.2 in
+      let z = media_name_lem L F o.0.port o.0.datagram (ok o.0 o.1) i x o.2 in
       (z.0, mathlib.Core.List.Memᴰ.append_right (media_held w s ++ parity_held w s) (mathlib.Core.List.Memᴰ.cast (sym z.1) (mathlib.Core.List.Memᴰ.map name_of o.1)))
 
   -- the group of a check lies in the window, and its name is received
-  pub check-in : (k : ℕ × ℕ) (v : Recovery) → Got w s offers (Theory.check k v) → (inside w k.0 k.1 ≡ true) × Received (held_and w s offers) (parity_name k.0 k.1)
-  check-in k v (inl h) =
+  pub check_in : (k : ℕ × ℕ) (v : Recovery) → Got w s offers (Theory.check k v) → (inside w k.0 k.1 ≡ true) × Received (held_and w s offers) (parity_name k.0 k.1)
+  check_in k v (inl h) =
       let there : Memᴰ h.at (keep (is_in_use w s) (up_to (rows w))) = keep-mem (is_in_use w s) (up_to (rows w)) h.at h.used (up_to-mem (rows w) h.at h.below) in
       let name : Memᴰ (parity_name (record_at s h.at).stream (record_at s h.at).snbase) (parity_held w s) = mathlib.Core.List.Memᴰ.map (λ r. parity_name (record_at s r).stream (record_at s r).snbase) there in
       rw (← h.names) ((G.shaped h.at h.below h.used).within, mathlib.Core.List.Memᴰ.append_left (names_of offers) (mathlib.Core.List.Memᴰ.append_right (media_held w s) name))
-  check-in k v (inr m) =
+  check_in k v (inr m) =
       let o = mathlib.Core.List.Memᴰ.of_map (seen w) offers m in
-      let z = check-name L F o.0.port o.0.datagram (ok o.0 o.1) k v o.2 in
+      let z = check_name L F o.0.port o.0.datagram (ok o.0 o.1) k v o.2 in
       (z.0, mathlib.Core.List.Memᴰ.append_right (media_held w s ++ parity_held w s) (mathlib.Core.List.Memᴰ.cast (sym z.1) (mathlib.Core.List.Memᴰ.map name_of o.1)))
 
   -- ---- and back
@@ -107,14 +107,14 @@ module _ {w : Window} (L : Limits w) {t : Stretch} (F : Fills w t) {a u : ℕ} {
   held-check a b m =
       let r = mathlib.Core.List.Memᴰ.of_map (λ r. parity_name (record_at s r).stream (record_at s r).snbase) (keep (is_in_use w s) (up_to (rows w))) m in
       let q = mem-keep (is_in_use w s) (up_to (rows w)) r.0 r.1 in
-      (recovery_at w s r.0, record { at = r.0; below = up_to-lt (rows w) r.0 q.0; used = q.1; names = same-group r.2; carries = refl })
+      (recovery_at w s r.0, record { at = r.0; below = up_to-lt (rows w) r.0 q.0; used = q.1; names = same_group_lem r.2; carries = refl })
     where
-      same-group : {i j k l : ℕ} → parity_name i j ≡ parity_name k l → ◌≡◌ {A = ℕ × ℕ} (i, j) (k, l)
-      same-group {i} {j} {k} {l} e = let y : i ≡ k = cc in let z : j ≡ l = cc in λ h. (y h, z h)
+      same_group_lem : {i j k l : ℕ} → parity_name i j ≡ parity_name k l → ◌≡◌ {A = ℕ × ℕ} (i, j) (k, l)
+      same_group_lem {i} {j} {k} {l} e = let y : i ≡ k = cc in let z : j ≡ l = cc in λ h. (y h, z h)
 
   -- a media packet that is received by its name
-  pub in-media : (i : ℕ) → i < w.n → Received (held_and w s offers) (media_name (number_at width w.base i)) → (x : Packet) × Got w s offers (Theory.media i x)
-  in-media i h m = ⊎_elim (λ a. ⊎_elim (λ b. let z = held-media i h b in (z.0, inl z.1)) (λ b. absurd (other b)) (mathlib.Core.List.Memᴰ.append_cases (media_held w s) a)) listed
+  pub in_media : (i : ℕ) → i < w.n → Received (held_and w s offers) (media_name (number_at width w.base i)) → (x : Packet) × Got w s offers (Theory.media i x)
+  in_media i h m = ⊎_elim (λ a. ⊎_elim (λ b. let z = held-media i h b in (z.0, inl z.1)) (λ b. absurd (other b)) (mathlib.Core.List.Memᴰ.append_cases (media_held w s) a)) listed
       (mathlib.Core.List.Memᴰ.append_cases (media_held w s ++ parity_held w s) m)
     where
       other : Memᴰ (media_name (number_at width w.base i)) (parity_held w s) → ⊥
@@ -123,12 +123,12 @@ module _ {w : Window} (L : Limits w) {t : Stretch} (F : Fills w t) {a u : ℕ} {
       listed : Memᴰ (media_name (number_at width w.base i)) (names_of offers) → (x : Packet) × Got w s offers (Theory.media i x)
       listed a =
           let o = mathlib.Core.List.Memᴰ.of_map name_of offers a in
-          let x = name-media L F o.0.port o.0.datagram i h o.2 in
+          let x = name_media L F o.0.port o.0.datagram i h o.2 in
           (x.0, inr (mathlib.Core.List.Memᴰ.cast (sym x.1) (mathlib.Core.List.Memᴰ.map (seen w) o.1)))
 
   -- a parity packet that is received by its name
-  pub in-check : (a b : ℕ) → Received (held_and w s offers) (parity_name a b) → (v : Recovery) × Got w s offers (Theory.check (a, b) v)
-  in-check a b m = ⊎_elim (λ q. ⊎_elim (λ n. absurd (other n)) (λ n. let z = held-check a b n in (z.0, inl z.1)) (mathlib.Core.List.Memᴰ.append_cases (media_held w s) q)) listed
+  pub in_check : (a b : ℕ) → Received (held_and w s offers) (parity_name a b) → (v : Recovery) × Got w s offers (Theory.check (a, b) v)
+  in_check a b m = ⊎_elim (λ q. ⊎_elim (λ n. absurd (other n)) (λ n. let z = held-check a b n in (z.0, inl z.1)) (mathlib.Core.List.Memᴰ.append_cases (media_held w s) q)) listed
       (mathlib.Core.List.Memᴰ.append_cases (media_held w s ++ parity_held w s) m)
     where
       other : Memᴰ (parity_name a b) (media_held w s) → ⊥
@@ -137,7 +137,7 @@ module _ {w : Window} (L : Limits w) {t : Stretch} (F : Fills w t) {a u : ℕ} {
       listed : Memᴰ (parity_name a b) (names_of offers) → (v : Recovery) × Got w s offers (Theory.check (a, b) v)
       listed q =
           let o = mathlib.Core.List.Memᴰ.of_map name_of offers q in
-          let x = name-check L F o.0.port o.0.datagram a b o.2 in
+          let x = name_check L F o.0.port o.0.datagram a b o.2 in
           (x.0, inr (mathlib.Core.List.Memᴰ.cast (sym x.1) (mathlib.Core.List.Memᴰ.map (seen w) o.1)))
 
   -- ---- what was received is unaltered, where the store held only such
@@ -149,4 +149,4 @@ module _ {w : Window} (L : Limits w) {t : Stretch} (F : Fills w t) {a u : ℕ} {
   pub got-unaltered : Holds w t s → (p : Theory.Offer (ℕ × ℕ) Recovery Packet) → Got w s offers p → Theory.Unaltered (code w) (sent w t) p
   got-unaltered H (Theory.media i x) (inl e) = let z = slot_is w s i x e in z.2 ∙ ap packet_of (H.media i z.0 (mark-one G i z.0 z.1))
   got-unaltered H (Theory.media i x) (inr m) = let o = mathlib.Core.List.Memᴰ.of_map (seen w) offers m in media-carries L F o.0.port o.0.datagram (ok o.0 o.1) i x o.2
-  got-unaltered H (Theory.check k v) m = check-sent F k (check-in k v m).0 v (got-check H k v m)
+  got-unaltered H (Theory.check k v) m = check-sent F k (check_in k v m).0 v (got-check H k v m)

@@ -22,7 +22,7 @@ use Rattle.guarantee.specs.Packets.{Packet, packet_of}
 use Rattle.guarantee.specs.Lengths.{padded_clean, units_le}
 use Rattle.guarantee.specs.View.{check_at}
 use Rattle.guarantee.specs.Order.{limits_of, standing}
-use Rattle.guarantee.specs.Accepted.{take-media, take-parity, Settled, settles}
+use Rattle.guarantee.specs.Accepted.{take-media, take_parity_lem, Settled, settles}
 
 -- a media datagram as the theory sees it: a packet at its position
 abbrev pub media_seen : Window → List ℕ → Offer (ℕ × ℕ) Recovery Packet
@@ -81,7 +81,7 @@ module _ (w : Window) (based : w.base < 2 ^ width) (a u : ℕ) (s : Store) (g : 
   parity-accepted stream hs e =
       let p = parity-passed (recount w a u) stream g s e in
       let o = standing w a u s p.standing in
-      rw e (settles (take-parity (limits_of w a u based p.standing.set_up) o.good o.waits stream (snbase g) (recovery_of w.p g)
+      rw e (settles (take_parity_lem (limits_of w a u based p.standing.set_up) o.good o.waits stream (snbase g) (recovery_of w.p g)
       (record { known = hs; rows = p.permitted; within = p.in_window })
       (padded_clean w.p (drop parity_header_size g) (units_le w.p w.p (length (drop parity_header_size g)) p.size)) p.size
       (λ q h i e. true≢false (sym (is_holder w s (stream, snbase g) q i e) ∙ any_false (holds w s stream (snbase g)) (rows w) p.new q h))

@@ -16,7 +16,7 @@ use Rattle.window.specs.Order.{is_present, is_in_use, group_at, missing_at}
 use Rattle.calls.specs.Content.{content_at, longest}
 use Rattle.calls.specs.Move.{leaving_count, shifted, advanced}
 use Rattle.calls.specs.Down.{length_moved, moved_at, moved_new}
-use Rattle.guarantee.specs.Ranges.{up_to-lt, all_of, of-all, keep-ext, count-zero}
+use Rattle.guarantee.specs.Ranges.{up_to-lt, all_of, of_all, keep_ext, count-zero}
 use Rattle.guarantee.specs.Parts.{part_fits}
 use Rattle.guarantee.specs.View.{Limits, Good, Missing}
 use Rattle.guarantee.specs.Shift.{moved-run, moved-zeros, moved-payload, onward-all}
@@ -44,15 +44,15 @@ not-missing (suc (suc m)) h = absurd (omega arith)
 
 -- so what leaves are the first packets present
 pub leaving-present : {w : Window} {a u : ℕ} {s : Store} → Good w a u s → (by : ℕ) → by ≤ w.n → leaving_count s by ≡ count (is_present s.marks) (up_to by)
-leaving-present {s = s} G by h = ap length (keep-ext (λ i. not (is_missing s.marks i)) (is_present s.marks) (up_to by) (λ i m. not-missing (get_or s.marks i 0) (G.mark i (omega (arith, up_to-lt by i m)))))
+leaving-present {s = s} G by h = ap length (keep_ext (λ i. not (is_missing s.marks i)) (is_present s.marks) (up_to by) (λ i m. not-missing (get_or s.marks i 0) (G.mark i (omega (arith, up_to-lt by i m)))))
 
 -- ---- what stays
 
 module _ {w : Window} (L : Limits w) {a u : ℕ} {s : Store} (G : Good w a u s) (by : ℕ) (hb : by ≤ w.n)
     (clear : (r : ℕ) → r < rows w → is_in_use w s r ≡ true → any (λ i. ltb i by) (group_at w s r) ≡ false) where
   -- a mark moves down with its position
-  mark-at : (i : ℕ) → i < w.n - by → get_or (shifted w by s).marks i 0 ≡ get_or s.marks (by + i) 0
-  mark-at = moved_at by w.n s.marks hb G.fits.marks-long
+  mark_at_lem : (i : ℕ) → i < w.n - by → get_or (shifted w by s).marks i 0 ≡ get_or s.marks (by + i) 0
+  mark_at_lem = moved_at by w.n s.marks hb G.fits.marks-long
 
   -- and a new position is missing
   mark-new : (i : ℕ) → i < by → get_or (shifted w by s).marks (w.n - by + i) 0 ≡ 0
@@ -69,30 +69,30 @@ module _ {w : Window} (L : Limits w) {a u : ℕ} {s : Store} (G : Good w a u s) 
           absurd (e (ap (λ k. get_or (shifted w by s).marks k 0) (sym z) ∙ mark-new (i - (w.n - by)) (omega arith)))
 
   -- a length
-  length-at : (i : ℕ) → i < w.n - by → length_at (shifted w by s) i ≡ length_at s (by + i)
-  length-at = moved_at by w.n s.lengths hb G.fits.lengths-long
+  length_at_lem : (i : ℕ) → i < w.n - by → length_at (shifted w by s) i ≡ length_at s (by + i)
+  length_at_lem = moved_at by w.n s.lengths hb G.fits.lengths-long
 
   -- a content
-  content-at : (i : ℕ) → i < w.n - by → content_at (advanced by 0 w) (shifted w by s) i ≡ content_at w s (by + i)
-  content-at i h =
+  content_at_lem : (i : ℕ) → i < w.n - by → content_at (advanced by 0 w) (shifted w by s) i ≡ content_at w s (by + i)
+  content_at_lem i h =
       let e : timestamp_at (shifted w by s) i ≡ timestamp_at s (by + i) = moved_at by w.n s.timestamps hb G.fits.timestamps-long i h in
       let f : payload_at w (shifted w by s) i ≡ payload_at w s (by + i) =
-      ap (λ m. payload_in w.p (shifted w by s).media m i) (length-at i h) ∙ moved-payload by w.n w.p s.media hb G.fits.media-long (length_at s (by + i)) i h in
-      λ k. record { timestamp = e k; length = length-at i h k; payload = f k }
+      ap (λ m. payload_in w.p (shifted w by s).media m i) (length_at_lem i h) ∙ moved-payload by w.n w.p s.media hb G.fits.media-long (length_at s (by + i)) i h in
+      λ k. record { timestamp = e k; length = length_at_lem i h k; payload = f k }
 
   -- all that there is for a position moves down
-  pub cell-at : (i : ℕ) → i < w.n - by → cell_at w (shifted w by s) i ≡ cell_at w s (by + i)
-  cell-at i h =
+  pub cell_at_lem : (i : ℕ) → i < w.n - by → cell_at w (shifted w by s) i ≡ cell_at w s (by + i)
+  cell_at_lem i h =
       let a : by * w.p ≤ w.n * w.p = mul-le-mul_right w.p hb in
       let b : (by + i) * w.p ≡ by * w.p + i * w.p = add-mul by i w.p in
       let c = part_fits (by + i) w.n w.p (omega arith) in
       let d = moved-run (by * w.p) (w.n * w.p) s.media a G.fits.media-long (i * w.p) w.p (omega arith) ∙ ap (λ k. take w.p (drop k s.media)) (sym b) in
       let e = moved_at by w.n s.timestamps hb G.fits.timestamps-long i h in
-      λ k. record { bytes = d k; timestamp = e k; length = length-at i h k; mark = mark-at i h k }
+      λ k. record { bytes = d k; timestamp = e k; length = length_at_lem i h k; mark = mark_at_lem i h k }
 
   -- and a new one is all zeros
-  pub cell-new : (i : ℕ) → i < by → cell_at w (shifted w by s) (w.n - by + i) ≡ empty_cell w
-  cell-new i h =
+  pub cell_new : (i : ℕ) → i < by → cell_at w (shifted w by s) (w.n - by + i) ≡ empty_cell w
+  cell_new i h =
       let a : by * w.p ≤ w.n * w.p = mul-le-mul_right w.p hb in
       let q : w.n - by + by ≡ w.n = omega arith in
       let b : (w.n - by + i) * w.p ≡ w.n * w.p - by * w.p + i * w.p = omega (arith, add-mul (w.n - by) i w.p, sym (add-mul (w.n - by) by w.p) ∙ ap (λ k. k * w.p) q) in
@@ -115,13 +115,13 @@ module _ {w : Window} (L : Limits w) {a u : ℕ} {s : Store} (G : Good w a u s) 
 
     -- so it lies in the window
     inside-at : inside (advanced by 0 w) (record_at s r).stream (record_at s r).snbase ≡ true
-    inside-at = of-all (λ i. ltb i w.n) (group_at (advanced by 0 w) (shifted w by s) r) (λ i m. lt-ltb i w.n (omega (arith, member-old i m)))
+    inside-at = of_all (λ i. ltb i w.n) (group_at (advanced by 0 w) (shifted w by s) r) (λ i m. lt-ltb i w.n (omega (arith, member-old i m)))
 
     -- and as many of it are missing
     missing_moved : length (missing_at (advanced by 0 w) (shifted w by s) r) ≡ length (missing_at w s r)
     missing_moved =
         let g = group_at (advanced by 0 w) (shifted w by s) r in
-        ap length (keep-ext (is_missing (shifted w by s).marks) (λ i. is_missing s.marks (by + i)) g (λ i m. ap (λ k. eqb k 0) (mark-at i (member-old i m))))
+        ap length (keep_ext (is_missing (shifted w by s).marks) (λ i. is_missing s.marks (by + i)) g (λ i m. ap (λ k. eqb k 0) (mark_at_lem i (member-old i m))))
         ∙ sym (count_map (is_missing s.marks) (λ i. by + i) g) ∙ ap (λ l. length (missing s.marks l)) (sym group_moved)
 
   -- those present are those that were, but for what left
@@ -134,7 +134,7 @@ module _ {w : Window} (L : Limits w) {a u : ℕ} {s : Store} (G : Good w a u s) 
       let x = sym (ap (λ k. count new (up_to k)) e) ∙ count_split new (w.n - by) by in
       let y = sym (ap (λ k. count old (up_to k)) f) ∙ count_split old by (w.n - by) in
       let z = count-zero (λ i. new (w.n - by + i)) (up_to by) (λ i m. ap (λ k. eqb k 1) (mark-new i (up_to-lt by i m))) in
-      let q = ap length (keep-ext new (λ i. old (by + i)) (up_to (w.n - by)) (λ i m. ap (λ k. eqb k 1) (mark-at i (up_to-lt (w.n - by) i m)))) in
+      let q = ap length (keep_ext new (λ i. old (by + i)) (up_to (w.n - by)) (λ i m. ap (λ k. eqb k 1) (mark_at_lem i (up_to-lt (w.n - by) i m)))) in
       omega (arith, G.presents)
 
   -- the store is in order
@@ -149,7 +149,7 @@ module _ {w : Window} (L : Limits w) {a u : ℕ} {s : Store} (G : Good w a u s) 
       records-long = G.fits.records-long;
     };
     mark = λ i h. marked i h (dec_lt i (w.n - by));
-    long = λ i h e. let l = present-moved i h (present-some i e) in rw (length-at i l) (G.long (by + i) (omega arith) (sym (ap (λ k. eqb k 1) (mark-at i l)) ∙ e));
+    long = λ i h e. let l = present-moved i h (present-some i e) in rw (length_at_lem i l) (G.long (by + i) (omega arith) (sym (ap (λ k. eqb k 1) (mark_at_lem i l)) ∙ e));
     good_use_mark = G.good_use_mark;
     shaped = λ r h e. let z = G.shaped r h e in record { known = z.known; rows = z.rows; within = inside-at r h e };
     sized = G.sized;
@@ -162,7 +162,7 @@ module _ {w : Window} (L : Limits w) {a u : ℕ} {s : Store} (G : Good w a u s) 
       present-some i e z = let y = eqb-true (get_or (shifted w by s).marks i 0) 1 e in omega arith
 
       marked : (i : ℕ) → i < w.n → Dec (i < w.n - by) → get_or (shifted w by s).marks i 0 ≤ 1
-      marked i h (yes l) = let z = G.mark (by + i) (omega arith) in omega (arith, mark-at i l)
+      marked i h (yes l) = let z = G.mark (by + i) (omega arith) in omega (arith, mark_at_lem i l)
       marked i h (no l) =
           let z : w.n - by + (i - (w.n - by)) ≡ i = omega arith in
           omega (arith, ap (λ k. get_or (shifted w by s).marks k 0) (sym z) ∙ mark-new (i - (w.n - by)) (omega arith))
@@ -174,6 +174,6 @@ module _ {w : Window} (L : Limits w) {a u : ℕ} {s : Store} (G : Good w a u s) 
   -- and what it holds is unaltered for the stretch moved on
   pub onward-holds : {t : Stretch} → Holds w t s → Holds (advanced by 0 w) (onward by t) (shifted w by s)
   onward-holds {t} H = record {
-    media = λ i h e. let l = present-moved i h (λ z. omega (arith, e)) in content-at i l ∙ H.media (by + i) (omega arith) (sym (mark-at i l) ∙ e);
+    media = λ i h e. let l = present-moved i h (λ z. omega (arith, e)) in content_at_lem i l ∙ H.media (by + i) (omega arith) (sym (mark_at_lem i l) ∙ e);
     parity = λ r h e. H.parity r h e ∙ ap (recovery_sent w t) (group_moved r h e) ∙ recovery_onward w t by (group_at (advanced by 0 w) (shifted w by s) r);
   }

@@ -7,7 +7,7 @@ use Rattle.sequence.specs.Lists.{and_split as both}
 use Rattle.window.specs.declared.Window.{Window}
 use Rattle.window.specs.Limits.{width, least_missing, rows, set_up_tests}
 use Rattle.window.specs.Bounds.{SetUp, Sized, set_up_good}
-use Rattle.window.specs.InOrder.{InOrder, order-in}
+use Rattle.window.specs.InOrder.{InOrder, order_in}
 use Rattle.window.specs.Store.{Store, short_store, record_at}
 use Rattle.window.specs.Order.{is_in_use, same_group, disorder}
 use Rattle.calls.specs.State.{recount}
@@ -79,7 +79,7 @@ module _ (w : Window) (a u : ℕ) (s : Store) where
 
   -- such a store is in order
   pub good-order : Ordered → disorder (recount w a u) s ≡ false
-  good-order o = order-in (recount w a u) s (record {
+  good-order o = order_in (recount w a u) s (record {
     good_marks = o.good.mark;
     good_lengths = o.good.long;
     uses_good = o.good.good_use_mark;

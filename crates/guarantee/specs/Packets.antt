@@ -88,11 +88,11 @@ cell_zeros (suc p) (suc j) = cell_zeros p j
 
 module _ (p : ℕ) (content : ℕ → Content) (whole : (j : ℕ) → Whole p (content j)) where
   -- so has the exclusive-or of a list of them
-  pub whole-xors : (g : List ℕ) → Whole p (xor_contents p content g)
-  whole-xors [] = length-replicate p 0
-  whole-xors (j ∷ g) = whole-xor (content j) (xor_contents p content g) (whole j) (whole-xors g)
+  pub whole_xors : (g : List ℕ) → Whole p (xor_contents p content g)
+  whole_xors [] = length-replicate p 0
+  whole_xors (j ∷ g) = whole-xor (content j) (xor_contents p content g) (whole j) (whole_xors g)
 
   -- the exclusive-or over a group is the theory's
   pub packet-total : (g : List ℕ) → packet_of (xor_contents p content g) ≡ total xored zeros (λ j. packet_of (content j)) g
   packet-total [] = fun_ext (cell_zeros (suc (suc p)))
-  packet-total (j ∷ g) = packet-xor (content j) (xor_contents p content g) (whole j) (whole-xors g) ∙ ap (xored (packet_of (content j))) (packet-total g)
+  packet-total (j ∷ g) = packet-xor (content j) (xor_contents p content g) (whole j) (whole_xors g) ∙ ap (xored (packet_of (content j))) (packet-total g)

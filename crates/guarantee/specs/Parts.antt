@@ -4,7 +4,7 @@ use Rattle.std.proofs.Common.{sym, ap, ◌∙◌}
 use Rattle.std.proofs.Math.Seq.{paste}
 use Rattle.xor.specs.Xor.{padded}
 pub use Rattle.xor.specs.Parts.{part_fits}
-use Rattle.xor.specs.Parts.{part-front, part-rest}
+use Rattle.xor.specs.Parts.{part_front, part_rest}
 use Rattle.window.specs.Store.{payload_in}
 use Rattle.guarantee.specs.Lengths.{length-padded, Clean}
 
@@ -22,8 +22,8 @@ by_front (suc p) (suc n) m (b ∷ l) = ap (λ k. b ∷ k) (by_front p n m l)
 module _ (d : List ℕ) (i p : ℕ) (s : List ℕ) (hd : i * p + p ≤ length d) (hs : length s ≡ p) where
   -- after a part is written, the payload of n bytes there is what was written, if that is of n bytes
   pub part_same : (n : ℕ) → Clean p n s → payload_in p (paste d (i * p) s p) n i ≡ s
-  part_same n e = by_front p n p (drop (i * p) (paste d (i * p) s p)) ∙ ap (λ l. padded p (take n l)) (part-front d i p s hd hs) ∙ e
+  part_same n e = by_front p n p (drop (i * p) (paste d (i * p) s p)) ∙ ap (λ l. padded p (take n l)) (part_front d i p s hd hs) ∙ e
 
   -- and the other parts are as they were
-  pub part-other : (n j : ℕ) → j ≢ i → payload_in p (paste d (i * p) s p) n j ≡ payload_in p d n j
-  part-other n j other = by_front p n p (drop (j * p) (paste d (i * p) s p)) ∙ ap (λ l. padded p (take n l)) (part-rest d i p s hd hs j other) ∙ sym (by_front p n p (drop (j * p) d))
+  pub part_other : (n j : ℕ) → j ≢ i → payload_in p (paste d (i * p) s p) n j ≡ payload_in p d n j
+  part_other n j other = by_front p n p (drop (j * p) (paste d (i * p) s p)) ∙ ap (λ l. padded p (take n l)) (part_rest d i p s hd hs j other) ∙ sym (by_front p n p (drop (j * p) d))

@@ -62,9 +62,9 @@ module _ (test : ℕ → Bool) where
   all_of (j ∷ l) e i (Memᴰ.tail m) = all_of l (both (test j) (all test l) e).1 i m
 
   -- and one that holds of each element holds of all
-  pub of-all : (l : List ℕ) → ((i : ℕ) → Memᴰ i l → test i ≡ true) → all test l ≡ true
-  of-all [] h = refl
-  of-all (j ∷ l) h = rw (h j (Memᴰ.head refl)) (of-all l (λ i m. h i (Memᴰ.tail m)))
+  pub of_all : (l : List ℕ) → ((i : ℕ) → Memᴰ i l → test i ≡ true) → all test l ≡ true
+  of_all [] h = refl
+  of_all (j ∷ l) h = rw (h j (Memᴰ.head refl)) (of_all l (λ i m. h i (Memᴰ.tail m)))
 
   -- one that holds of none of a list holds of no element
   pub any_none : (l : List ℕ) → any test l ≡ false → (i : ℕ) → Memᴰ i l → test i ≡ false
@@ -138,18 +138,18 @@ module _ (test : ℕ → Bool) where
 
 module _ (f h : ℕ → Bool) where
   -- two tests that agree on a list keep the same of it
-  pub keep-ext : (l : List ℕ) → ((i : ℕ) → Memᴰ i l → f i ≡ h i) → keep f l ≡ keep h l
-  keep-ext [] e = refl
-  keep-ext (j ∷ l) e = rw (e j (Memᴰ.head refl), keep-ext l (λ i m. e i (Memᴰ.tail m)))
+  pub keep_ext : (l : List ℕ) → ((i : ℕ) → Memᴰ i l → f i ≡ h i) → keep f l ≡ keep h l
+  keep_ext [] e = refl
+  keep_ext (j ∷ l) e = rw (e j (Memᴰ.head refl), keep_ext l (λ i m. e i (Memᴰ.tail m)))
 
   -- two tests that agree but at one number: one more below n
-  pub count-raise : (n r : ℕ) → r < n → f r ≡ false → h r ≡ true → ((i : ℕ) → i ≢ r → f i ≡ h i) → count h (up_to n) ≡ suc (count f (up_to n))
-  count-raise zero r l a b e = absurd (omega arith)
-  count-raise (suc n) r l a b e = rw (count-snoc h (up_to n) n, count-snoc f (up_to n) n) (go (ℕ_discrete r n) (count-raise n r))
+  pub count_raise : (n r : ℕ) → r < n → f r ≡ false → h r ≡ true → ((i : ℕ) → i ≢ r → f i ≡ h i) → count h (up_to n) ≡ suc (count f (up_to n))
+  count_raise zero r l a b e = absurd (omega arith)
+  count_raise (suc n) r l a b e = rw (count-snoc h (up_to n) n, count-snoc f (up_to n) n) (go (ℕ_discrete r n) (count_raise n r))
     where
       go : Dec (r ≡ n) → (r < n → f r ≡ false → h r ≡ true → ((i : ℕ) → i ≢ r → f i ≡ h i) → count h (up_to n) ≡ suc (count f (up_to n)))
           → cond (h n) (suc (count h (up_to n))) (count h (up_to n)) ≡ suc (cond (f n) (suc (count f (up_to n))) (count f (up_to n)))
-      go (yes q) ih = rw (ap h (sym q) ∙ b, ap f (sym q) ∙ a, keep-ext (up_to n) (λ i m. let z = up_to-lt n i m in e i (λ c. omega arith)))
+      go (yes q) ih = rw (ap h (sym q) ∙ b, ap f (sym q) ∙ a, keep_ext (up_to n) (λ i m. let z = up_to-lt n i m in e i (λ c. omega arith)))
       go (no q) ih = rw (e n (λ c. q (sym c)), ih (omega arith) a b e) (same (h n))
         where
           same : (c : Bool) → cond c (suc (suc (count f (up_to n)))) (suc (count f (up_to n))) ≡ suc (cond c (suc (count f (up_to n))) (count f (up_to n)))
@@ -157,9 +157,9 @@ module _ (f h : ℕ → Bool) where
           same false = refl
 
   -- of any list: the first test holds of no more than the second does and the places of that number
-  pub count-lower : (i : ℕ) (l : List ℕ) → ((j : ℕ) → j ≢ i → f j ≡ h j) → count f l ≤ count h l + count (eqb i) l
-  count-lower i [] e = omega arith
-  count-lower i (j ∷ l) e = go (f j) (h j) (eqb i j) refl refl refl (count-lower i l e)
+  pub count_lower : (i : ℕ) (l : List ℕ) → ((j : ℕ) → j ≢ i → f j ≡ h j) → count f l ≤ count h l + count (eqb i) l
+  count_lower i [] e = omega arith
+  count_lower i (j ∷ l) e = go (f j) (h j) (eqb i j) refl refl refl (count_lower i l e)
     where
       go : (a b c : Bool) → f j ≡ a → h j ≡ b → eqb i j ≡ c → count f l ≤ count h l + count (eqb i) l
           → length (cond a (j ∷ keep f l) (keep f l)) ≤ length (cond b (j ∷ keep h l) (keep h l)) + length (cond c (j ∷ keep (eqb i) l) (keep (eqb i) l))

@@ -5,7 +5,7 @@ use Rattle.std.proofs.Common.{sym, ap, ◌∙◌, inl, inr, true≢false, arith}
 use Rattle.std.proofs.Math.Decide.{ℕ_discrete}
 use Rattle.std.proofs.lemmas.List.{length-replicate}
 use Rattle.xor.specs.Xor.{padded}
-use Rattle.xor.specs.Parts.{part-front, part-rest}
+use Rattle.xor.specs.Parts.{part_front, part_rest}
 use Rattle.sequence.specs.Lists.{any, and_split as both}
 use Rattle.window.specs.declared.Record.{Record}
 use Rattle.window.specs.declared.Window.{Window}
@@ -47,12 +47,12 @@ pub record Released (w : Window) (a : ℕ) (s : Store) (by m : ℕ) (y : State) 
 
 -- a record that is set to zero, with its bytes
 freed-row : {w : Window} {a u : ℕ} {s : Store} (G : Good w a u s) (r : ℕ) → r < rows w → is_in_use w s r ≡ true → Row w (freed w s r) r blank (replicate w.p 0)
-freed-row {w} {s = s} G r h e = record { is = freed-blank G r h e; has = part-front s.parity r w.p (replicate w.p 0) (let z = part_fits r (rows w) w.p h in omega (arith, G.fits.parity-long)) (length-replicate w.p 0) }
+freed-row {w} {s = s} G r h e = record { is = freed-blank G r h e; has = part_front s.parity r w.p (replicate w.p 0) (let z = part_fits r (rows w) w.p h in omega (arith, G.fits.parity-long)) (length-replicate w.p 0) }
 
 -- another stays
 freed_stays : {w : Window} {a u : ℕ} {s : Store} (G : Good w a u s) (r : ℕ) → r < rows w → is_in_use w s r ≡ true → (q : ℕ) → q ≢ r → {v : Record} {bytes : List ℕ} → Row w s q v bytes → Row w (freed w s r) q v bytes
 freed_stays {w} {s = s} G r h e q n z =
-    record { is = freed-same G r h e q n ∙ z.is; has = part-rest s.parity r w.p (replicate w.p 0) (let z = part_fits r (rows w) w.p h in omega (arith, G.fits.parity-long)) (length-replicate w.p 0) q n ∙ z.has }
+    record { is = freed-same G r h e q n ∙ z.is; has = part_rest s.parity r w.p (replicate w.p 0) (let z = part_fits r (rows w) w.p h in omega (arith, G.fits.parity-long)) (length-replicate w.p 0) q n ∙ z.has }
 
 module _ {w : Window} {a u : ℕ} {s : Store} (G : Good w a u s) (by : ℕ) where
   -- one record more: the test speaks of the state so far, in which this record is as it was
@@ -99,8 +99,8 @@ module _ {w : Window} {a u : ℕ} {s : Store} (G : Good w a u s) (by : ℕ) wher
           last r l c (no n) = freed_stays f.good m hm (used-on e) r n (f.gone r (omega arith) c)
 
   -- the first m records
-  pub release-below : (m : ℕ) → m ≤ rows w → Released w a s by m (release_below (behind by) m (at w a u s 0 0))
-  release-below zero h = record {
+  pub release_below_lem : (m : ℕ) → m ≤ rows w → Released w a s by m (release_below (behind by) m (at w a u s 0 0))
+  release_below_lem zero h = record {
     used = u;
     store = s;
     is = refl;
@@ -112,7 +112,7 @@ module _ {w : Window} {a u : ℕ} {s : Store} (G : Good w a u s) (by : ℕ) wher
     gone = λ r l e. absurd (omega arith);
     kept = λ r l e. record { is = refl; has = refl };
   }
-  release-below (suc m) h = release-one m h (release_below (behind by) m (at w a u s 0 0)) (release-below m (omega arith))
+  release_below_lem (suc m) h = release-one m h (release_below (behind by) m (at w a u s 0 0)) (release_below_lem m (omega arith))
 
 -- all of them
 module _ {w : Window} {a : ℕ} {s : Store} {by : ℕ} {y : State} (f : Released w a s by (rows w) y) where
@@ -142,8 +142,8 @@ module _ {w : Window} {a : ℕ} {s : Store} {by : ℕ} {y : State} (f : Released
     was-used = rw same_row.is at e
 
     -- and holds what it held
-    same-recovery : recovery_at w f.store r ≡ recovery_at w s r
-    same-recovery =
+    same_recovery_lem : recovery_at w f.store r ≡ recovery_at w s r
+    same_recovery_lem =
         let z : parity_at w f.store r ≡ parity_at w s r =
         ap (λ v. payload_in w.p f.store.parity v.payload_length r) same_row.is
         ∙ by_front w.p (record_at s r).payload_length w.p (drop (r * w.p) f.store.parity)
@@ -159,8 +159,8 @@ module _ {w : Window} {a : ℕ} {s : Store} {by : ℕ} {y : State} (f : Released
     released-clear = rw same_row.is (rw was-used at not_behind)
 
   -- all that there is for a position is as it was
-  pub released-cell : (i : ℕ) → cell_at w f.store i ≡ cell_at w s i
-  released-cell i = rw (f.media, f.timestamps, f.lengths, f.marks)
+  pub released_cell : (i : ℕ) → cell_at w f.store i ≡ cell_at w s i
+  released_cell i = rw (f.media, f.timestamps, f.lengths, f.marks)
 
   -- what is still in hand waits for as many
   pub released-waits : {k : ℕ} → Missing k w s → Missing k w f.store
@@ -170,5 +170,5 @@ module _ {w : Window} {a : ℕ} {s : Store} {by : ℕ} {y : State} (f : Released
   pub released-holds : {t : Stretch} → Holds w t s → Holds w t f.store
   released-holds {t} H = record {
     media = λ i h e. rw (f.media, f.timestamps, f.lengths) (H.media i h (rw f.marks at e));
-    parity = λ r h e. same-recovery r h e ∙ H.parity r h (was-used r h e) ∙ ap (λ (v : Record). recovery_sent w t (group w v.stream v.snbase)) (sym (same_row r h e).is);
+    parity = λ r h e. same_recovery_lem r h e ∙ H.parity r h (was-used r h e) ∙ ap (λ (v : Record). recovery_sent w t (group w v.stream v.snbase)) (sym (same_row r h e).is);
   }

@@ -21,7 +21,7 @@ use Rattle.peel.specs.Group.{count_none}
 use Rattle.peel.specs.Peel.{gone, miss, Spoilt, Steps, stop, go_on}
 use Rattle.peel.specs.Rest.{Still, Engine, steps_then}
 use Rattle.guarantee.specs.View.{code, check_at, member-lt, Held, view, miss-count, Good, recovery_whole, Missing, held-count}
-use Rattle.guarantee.specs.Moves.{single, Solved, solved, rebuilt_in, spoilt-by, rebuild-good, rebuild-full, step-rebuild, freed, freed-other, freed-same, freed-fewer, freed-good, step-free, freed-full}
+use Rattle.guarantee.specs.Moves.{single, Solved, solved, rebuilt_in, spoilt-by, rebuild-good, rebuild-full, step_rebuild, freed, freed-other, freed-same, freed-fewer, freed-good, step_free, freed-full}
 
 -- a state whose window value has a given window's set_up numbers
 abbrev pub at : Window → (a u : ℕ) → Store → (rebuilt spoilt : ℕ) → State
@@ -130,7 +130,7 @@ module _ {w : Window} {a u : ℕ} {s : Store} (G : Good w a u s) (c q : ℕ) whe
         store = freed w t m;
         is = refl;
         good = freed-good f.good m hm p;
-        steps = steps_then (code w) f.steps (go_on (step-free f.good m hm p (inl (freed-full f.good m hm p (eqb-true (length (missing_at w t m)) 0 e)))) stop);
+        steps = steps_then (code w) f.steps (go_on (step_free f.good m hm p (inl (freed-full f.good m hm p (eqb-true (length (missing_at w t m)) 0 e)))) stop);
         spent = inr (⊎_elim (λ z. let l = freed-fewer f.good m hm p in omega (arith, z.1)) (λ z. let l = freed-fewer f.good m hm p in omega arith) f.spent);
         least = λ r l h. let n = freed-other f.good m hm p r h in old r l h n;
       }
@@ -139,9 +139,9 @@ module _ {w : Window} {a u : ℕ} {s : Store} (G : Good w a u s) (c q : ℕ) whe
           old r l e n = let z = freed-same f.good m hm p r n in rw z (f.least r (omega arith) (rw z at e))
 
   -- the first m records
-  pub free-below : (m : ℕ) → m ≤ rows w → Freed w a u s c q m (release_below idle m (at w a u s c q))
-  free-below zero h = record { used = u; store = s; is = refl; good = G; steps = stop; spent = inl (refl, refl); least = λ r l e. absurd (omega arith) }
-  free-below (suc m) h = free_one m h (release_below idle m (at w a u s c q)) (free-below m (omega arith))
+  pub free_below_lem : (m : ℕ) → m ≤ rows w → Freed w a u s c q m (release_below idle m (at w a u s c q))
+  free_below_lem zero h = record { used = u; store = s; is = refl; good = G; steps = stop; spent = inl (refl, refl); least = λ r l e. absurd (omega arith) }
+  free_below_lem (suc m) h = free_one m h (release_below idle m (at w a u s c q)) (free_below_lem m (omega arith))
 
 -- a record in use with none missing is among those released
 spends : {w : Window} {a u : ℕ} {s : Store} {c q m : ℕ} {y : State} (f : Freed w a u s c q m y) (r : ℕ) → r < m → is_in_use w s r ≡ true
@@ -225,7 +225,7 @@ module _ {w : Window} {a u : ℕ} {s : Store} (G : Good w a u s) (r : ℕ) (hr :
       least = record { least = f.least };
       rise = omega arith;
     };
-    steps = go_on (step-rebuild k v i solves G big ok (Held w s) in_hand (λ l x h. h) (λ l x h. inl h)) f.steps;
+    steps = go_on (step_rebuild k v i solves G big ok (Held w s) in_hand (λ l x h. h) (λ l x h. inl h)) f.steps;
     work = inr (spends f r hr used empty, omega arith);
     clear = inl refl;
   })
@@ -237,7 +237,7 @@ module _ {w : Window} {a u : ℕ} {s : Store} (G : Good w a u s) (r : ℕ) (hr :
       t = rebuilt_in w s (group_at w s r) v.content i
 
       f : Freed w (a + 1) u t (c + 1) q (rows w) (release_below idle (rows w) (at w (a + 1) u t (c + 1) q))
-      f = free-below (rebuild-good k v i solves G big ok) (c + 1) q (rows w) (omega arith)
+      f = free_below_lem (rebuild-good k v i solves G big ok) (c + 1) q (rows w) (omega arith)
 
       empty : length (missing_at w t r) ≡ 0
       empty = sym (miss-count w t (group_at w s r) (member-lt (G.shaped r hr used))) ∙ count_none (miss (view w t)) (group_at w s r) (rebuild-full k v i solves G big ok)
@@ -256,7 +256,7 @@ module _ {w : Window} {a u : ℕ} {s : Store} (G : Good w a u s) (r : ℕ) (hr :
       least = record { least = λ p h e. let z = freed-same G r hr used p (freed-other G r hr used p e) in rw z (K.least p h (rw z at e)) };
       rise = rise;
     };
-    steps = go_on (step-free G r hr used (inr spoilt)) stop;
+    steps = go_on (step_free G r hr used (inr spoilt)) stop;
     work = inr (freed-fewer G r hr used, omega arith);
     clear = inr (k, v, spoilt);
   }

@@ -53,13 +53,13 @@ module _ (w : Window) (D : List (ℕ × ℕ)) where
     pub believed : (a : Answer) → Memᴰ a answered → (number_of a ≢ 18) ⊎ Lying w s os
 
   -- a call, then a list
-  call-then : {os ps : List (Theory.Offer (ℕ × ℕ) Recovery Packet)} {s : Store} {answered : List Answer} {x y : Outcome}
+  call_then : {os ps : List (Theory.Offer (ℕ × ℕ) Recovery Packet)} {s : Store} {answered : List Answer} {x y : Outcome}
       → Goes w D os s x → Arrived ps x.store answered y → Arrived (os ++ ps) s (x.answer ∷ answered) y
-  call-then {os} {ps} {s} {answered} {x} a b = record {
+  call_then {os} {ps} {s} {answered} {x} a b = record {
     fine = b.fine;
     runs = Theory.runs_then (code w) a.runs b.runs;
-    clear = λ z m. ⊎_elim (λ e. ⊎_elim (λ c. inl (ap spoilt_of e ∙ c)) (λ c. inr (Theory.spoiling-more (code w) ps c)) a.clear)
-        (λ n. ⊎_elim inl (λ c. inr (Theory.spoiling-then (code w) a.runs c)) (b.clear z n)) (Memᴰ.cases_cons m);
+    clear = λ z m. ⊎_elim (λ e. ⊎_elim (λ c. inl (ap spoilt_of e ∙ c)) (λ c. inr (Theory.spoiling_more (code w) ps c)) a.clear)
+        (λ n. ⊎_elim inl (λ c. inr (Theory.spoiling_then (code w) a.runs c)) (b.clear z n)) (Memᴰ.cases_cons m);
     believed = λ z m. ⊎_elim (λ e. ⊎_elim (λ c. inl (λ q. c (ap number_of (sym e) ∙ q))) (λ c. inr (lying-more ps c)) a.believed)
         (λ n. ⊎_elim inl (λ c. inr (lying-then a.runs c)) (b.believed z n)) (Memᴰ.cases_cons m);
   }
@@ -77,8 +77,8 @@ module _ (w : Window) (D : List (ℕ × ℕ)) where
       go : (b : Bool) → counts w o ≡ b → ((p : Offer) → Memᴰ p (cond b (o ∷ counted w offers) (counted w offers)) → Keeping p)
           → (((p : Offer) → Memᴰ p (counted w offers) → Keeping p) → (y : Outcome) → Fine w D y.window y.store → Arrived (map (seen w) (counted w offers)) y.store (answers y offers) (run y offers))
           → Arrived (map (seen w) (cond b (o ∷ counted w offers) (counted w offers))) x.store (next.answer ∷ answers next offers) (run next offers)
-      go true e each rest = let a = each o (Memᴰ.head refl) x.window x.store f in call-then a (rest (λ p m. each p (Memᴰ.tail m)) next a.fine)
-      go false e each rest = let a = outside-refused o.port o.datagram e f in call-then a (rest each next a.fine)
+      go true e each rest = let a = each o (Memᴰ.head refl) x.window x.store f in call_then a (rest (λ p m. each p (Memᴰ.tail m)) next a.fine)
+      go false e each rest = let a = outside-refused o.port o.datagram e f in call_then a (rest each next a.fine)
 
 -- an unaltered offer whose group is in D keeps the invariant: there is room for it
 fine-offer : {w : Window} (O : Opened w) {t : Stretch} → Fills w t → {D : List (ℕ × ℕ)} → length D ≤ parity_room w → (p : Port) (g : List ℕ) → UnalteredOn w t p g
@@ -123,7 +123,7 @@ ready_at w a u x {t} {offers} e G =
 -- the list is a run from there
 pub arrives : {w : Window} {a u : ℕ} {t : Stretch} {offers : List Offer} (x : Outcome) → x.window ≡ recount w a u → Ready w a u x.store t offers
     → Arrived w (distinct_groups (received_from w x.store offers)) (map (seen w) (counted w offers)) x.store (answers x offers) (run x offers)
-arrives {w} {a} {u} {offers = offers} x e R = fine-run w received-groups offers
+arrives {w} {a} {u} {offers = offers} x e R = fine-run w received_groups offers
     (λ o m. fine-offer R.within R.fills R.few_groups o.port o.datagram (R.unaltered o m)
     (λ a b e. distinct_has received a b (Memᴰ.append_right (media_held w x.store ++ parity_held w x.store) (Memᴰ.cast (sym e) (Memᴰ.map name_of m))))) x
     (record {
@@ -138,5 +138,5 @@ arrives {w} {a} {u} {offers = offers} x e R = fine-run w received-groups offers
     received : List Name
     received = received_from w x.store offers
 
-    received-groups : List (ℕ × ℕ)
-    received-groups = distinct_groups received
+    received_groups : List (ℕ × ℕ)
+    received_groups = distinct_groups received

@@ -5,7 +5,7 @@ use mathlib.Core.List.{List, Memᴰ}
 use Rattle.std.proofs.lemmas.List.{length-map}
 use Rattle.answer.specs.First.{None}
 use Rattle.sequence.specs.Lists.{up_to, length-up_to}
-use Rattle.sequence.specs.Wrap.{number_at, ahead-numberAt, member, members}
+use Rattle.sequence.specs.Wrap.{number_at, ahead-number_at, member, members}
 use Rattle.rtp.specs.Rtp.{sequence_number}
 use Rattle.rtp.specs.Fec.{column, row, offset_of, na_of, snbase}
 use Rattle.rtp.specs.Faults.{media_tests, parity_tests}
@@ -19,7 +19,7 @@ use Rattle.calls.specs.Content.{Recovery, fits}
 use Rattle.calls.specs.Accept.{content_of, recovery_of}
 use Rattle.peel.specs.Group as Peel
 use Rattle.peel.specs.Peel as Theory
-use Rattle.guarantee.specs.Packets.{Whole, Packet, xored, zeros, packet_of, content_from_lem, packet-total, whole-xors}
+use Rattle.guarantee.specs.Packets.{Whole, Packet, xored, zeros, packet_of, content_from_lem, packet-total, whole_xors}
 use Rattle.guarantee.specs.Lengths.{length-padded, Clean, padded_clean, zeros_clean, padded-past, past_more, past_xors, units_le, units_upto, longest-le, longest-good}
 use Rattle.guarantee.specs.View.{Limits, group_of, group-lt, code}
 use Rattle.guarantee.specs.Wire.{media-number, media-content, media-faultless, parity-snbase, parity-recovery, parity-faultless, xors_lt}
@@ -48,7 +48,7 @@ not-check e = let z : ◌≡◌ {A = ℕ} 0 1 = cc in omega arith
 
 -- the position of a position's number
 pub position-number : {w : Window} → Limits w → (i : ℕ) → i < w.n → position w (number_at width w.base i) ≡ i
-position-number {w} L i h = ahead-numberAt width w.base (omega (arith, L.based)) i (omega (arith, L.set_up.n-high))
+position-number {w} L i h = ahead-number_at width w.base (omega (arith, L.based)) i (omega (arith, L.set_up.n-high))
 
 -- ---- what is sent
 
@@ -58,7 +58,7 @@ sent-whole w t i = length-padded w.p (t i).payload
 
 -- and so has the recovery of a group over the stretch
 pub recovery_whole : (w : Window) (t : Stretch) (g : List ℕ) → Whole w.p (recovery_sent w t g).content
-recovery_whole w t = whole-xors w.p (content_sent w t) (sent-whole w t)
+recovery_whole w t = whole_xors w.p (content_sent w t) (sent-whole w t)
 
 -- which is the theory's sum
 pub recovery_sum : (w : Window) (t : Stretch) (g : List ℕ) → packet_of (recovery_sent w t g).content ≡ Peel.total xored zeros (sent w t) g
@@ -197,37 +197,37 @@ module _ {w : Window} (L : Limits w) {t : Stretch} (F : Fills w t) where
   media-carries rowPort g u i x q = absurd (not-check (sym q))
 
   -- an offer seen as media at a position lies in the window and has the name of that position
-  pub media-name : (p : Port) (g : List ℕ) → UnalteredOn w t p g → (i : ℕ) (x : Packet) → seen_on w p g ≡ Theory.media i x → (i < w.n) × (name_on p g ≡ media_name (number_at width w.base i))
-  media-name mediaPort g u i x e =
+  pub media_name_lem : (p : Port) (g : List ℕ) → UnalteredOn w t p g → (i : ℕ) (x : Packet) → seen_on w p g ≡ Theory.media i x → (i < w.n) × (name_on p g ≡ media_name (number_at width w.base i))
+  media_name_lem mediaPort g u i x e =
       let r = media-read g u in
       let a : position w (sequence_number g) ≡ i = cc in
       let b : position w (sequence_number g) ≡ r.place = ap (position w) r.number ∙ position-number L r.place r.below in
       (omega (arith, r.below, sym b ∙ a), ap media_name (r.number ∙ ap (number_at width w.base) (sym b ∙ a)))
-  media-name columnPort g u i x e = absurd (not-check (sym e))
-  media-name rowPort g u i x e = absurd (not-check (sym e))
+  media_name_lem columnPort g u i x e = absurd (not-check (sym e))
+  media_name_lem rowPort g u i x e = absurd (not-check (sym e))
 
   -- and back
-  pub name-media : (p : Port) (g : List ℕ) (i : ℕ) → i < w.n → name_on p g ≡ media_name (number_at width w.base i) → (x : Packet) × (seen_on w p g ≡ Theory.media i x)
-  name-media mediaPort g i h e =
+  pub name_media : (p : Port) (g : List ℕ) (i : ℕ) → i < w.n → name_on p g ≡ media_name (number_at width w.base i) → (x : Packet) × (seen_on w p g ≡ Theory.media i x)
+  name_media mediaPort g i h e =
       let a : sequence_number g ≡ number_at width w.base i = cc in
       (packet_of (content_of w.p g), ap (λ j. Theory.media j (packet_of (content_of w.p g))) (ap (position w) a ∙ position-number L i h))
-  name-media columnPort g i h e = absurd (let z : ◌≡◌ {A = ℕ} 0 1 = cc in omega arith)
-  name-media rowPort g i h e = absurd (let z : ◌≡◌ {A = ℕ} 0 1 = cc in omega arith)
+  name_media columnPort g i h e = absurd (let z : ◌≡◌ {A = ℕ} 0 1 = cc in omega arith)
+  name_media rowPort g i h e = absurd (let z : ◌≡◌ {A = ℕ} 0 1 = cc in omega arith)
 
   -- an offer seen as a check has the name of its group, which lies in the window
-  pub check-name : (p : Port) (g : List ℕ) → UnalteredOn w t p g → (k : ℕ × ℕ) (v : Recovery) → seen_on w p g ≡ Theory.check k v → (inside w k.0 k.1 ≡ true) × (name_on p g ≡ parity_name k.0 k.1)
-  check-name mediaPort g u k v e = absurd (not-check e)
-  check-name columnPort g u k v e = let z : (column, snbase g) ≡ k = cc in rw (← z) ((parity-read column (omega arith) g u).within, refl)
-  check-name rowPort g u k v e = let z : (row, snbase g) ≡ k = cc in rw (← z) ((parity-read row (omega arith) g u).within, refl)
+  pub check_name : (p : Port) (g : List ℕ) → UnalteredOn w t p g → (k : ℕ × ℕ) (v : Recovery) → seen_on w p g ≡ Theory.check k v → (inside w k.0 k.1 ≡ true) × (name_on p g ≡ parity_name k.0 k.1)
+  check_name mediaPort g u k v e = absurd (not-check e)
+  check_name columnPort g u k v e = let z : (column, snbase g) ≡ k = cc in rw (← z) ((parity-read column (omega arith) g u).within, refl)
+  check_name rowPort g u k v e = let z : (row, snbase g) ≡ k = cc in rw (← z) ((parity-read row (omega arith) g u).within, refl)
 
   -- and back
-  pub name-check : (p : Port) (g : List ℕ) (stream snbase' : ℕ) → name_on p g ≡ parity_name stream snbase' → (v : Recovery) × (seen_on w p g ≡ Theory.check (stream, snbase') v)
-  name-check mediaPort g stream snbase' e = absurd (let z : ◌≡◌ {A = ℕ} 0 1 = cc in omega arith)
-  name-check columnPort g stream snbase' e =
+  pub name_check : (p : Port) (g : List ℕ) (stream snbase' : ℕ) → name_on p g ≡ parity_name stream snbase' → (v : Recovery) × (seen_on w p g ≡ Theory.check (stream, snbase') v)
+  name_check mediaPort g stream snbase' e = absurd (let z : ◌≡◌ {A = ℕ} 0 1 = cc in omega arith)
+  name_check columnPort g stream snbase' e =
       let a : column ≡ stream = cc in
       let b : snbase g ≡ snbase' = cc in
       rw (← a, ← b) (recovery_of w.p g, refl)
-  name-check rowPort g stream snbase' e =
+  name_check rowPort g stream snbase' e =
       let a : row ≡ stream = cc in
       let b : snbase g ≡ snbase' = cc in
       rw (← a, ← b) (recovery_of w.p g, refl)

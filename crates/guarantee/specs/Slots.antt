@@ -42,9 +42,9 @@ module _ (w : Window) (s : Store) where
       go false = let z = length_part w.p s.media (length_at s i) i in omega (arith, length-take (length_at s i) (content_at w s i).payload)
 
   -- each has its datagram, with zeros behind it
-  slot-at : (by i : ℕ) (rest : List ℕ) → i < by → take (slot_size w) (drop (i * slot_size w) (leaving_slots w s by ++ rest)) ≡ padded (slot_size w) (leaving w s i)
-  slot-at zero i rest h = absurd (omega arith)
-  slot-at (suc n) i rest h = ap (λ l. take (slot_size w) (drop (i * slot_size w) l)) (append_assoc (leaving_slots w s n) (padded (slot_size w) (leaving w s n)) rest) ∙ go (ℕ_discrete i n) (slot-at n i (padded (slot_size w) (leaving w s n) ++ rest))
+  slot_at_lem : (by i : ℕ) (rest : List ℕ) → i < by → take (slot_size w) (drop (i * slot_size w) (leaving_slots w s by ++ rest)) ≡ padded (slot_size w) (leaving w s i)
+  slot_at_lem zero i rest h = absurd (omega arith)
+  slot_at_lem (suc n) i rest h = ap (λ l. take (slot_size w) (drop (i * slot_size w) l)) (append_assoc (leaving_slots w s n) (padded (slot_size w) (leaving w s n)) rest) ∙ go (ℕ_discrete i n) (slot_at_lem n i (padded (slot_size w) (leaving w s n) ++ rest))
     where
       -- the slots before, then this one and the rest
       slots : List ℕ
@@ -66,4 +66,4 @@ module _ (w : Window) (s : Store) where
       get_or-append (leaving_sizes w s by) (drop (length (leaving_sizes w s by)) sizes) 0 i (omega arith) ∙ map_at f 0 by i h in
       ap (λ m. take m (drop (i * slot_size w) (over (leaving_slots w s by) out))) e
       ∙ sym (take-take (length (leaving w s i)) (slot_size w) (drop (i * slot_size w) (over (leaving_slots w s by) out)) (leaving-fits i))
-      ∙ ap (take (length (leaving w s i))) (slot-at by i (drop (length (leaving_slots w s by)) out) h) ∙ padded-front (slot_size w) (leaving w s i) (leaving-fits i)
+      ∙ ap (take (length (leaving w s i))) (slot_at_lem by i (drop (length (leaving_slots w s by)) out) h) ∙ padded-front (slot_size w) (leaving w s i) (leaving-fits i)

@@ -18,8 +18,8 @@ use Rattle.calls.specs.Call.{Outcome, standing_tests, asked, cleared, opened}
 use Rattle.calls.specs.Passed.{none_first}
 use Rattle.peel.specs.Peel as Theory
 use Rattle.peel.specs.Rest.{Still}
-use Rattle.peel.specs.Theorem.{stopping, missing-iff, same, never-spoilt}
-use Rattle.guarantee.specs.Ranges.{decide, keep-ext, count-keep}
+use Rattle.peel.specs.Theorem.{stopping, missing_iff, same, never-spoilt}
+use Rattle.guarantee.specs.Ranges.{decide, keep_ext, count-keep}
 use Rattle.guarantee.specs.Packets.{Packet}
 use Rattle.guarantee.specs.Lengths.{padded-front, units_le}
 use Rattle.guarantee.specs.View.{Limits, group_of, group-lt, code, view, miss-mark, Good, mark-one}
@@ -29,7 +29,7 @@ use Rattle.guarantee.specs.Accepted.{rests}
 use Rattle.guarantee.specs.Demand3.{Port, mediaPort, columnPort, rowPort, Offer, offered, run, answers, Stretch, Fills, UnalteredOn, Unaltered, Name, media_name, name_on, names_of, Received, group_named, distinct_groups, Given, mark_at, Hidden, Demand3, Claim, SamePackets, ClaimSame}
 use Rattle.guarantee.specs.Start.{Holds, Start, held_and, every, counted, received_from, GivenFrom, ClaimFrom, ClaimSameFrom, ClaimChain}
 use Rattle.guarantee.specs.Sent.{sent, seen, parity-read}
-use Rattle.guarantee.specs.Names.{Got, media-in, check-in, in-media, in-check}
+use Rattle.guarantee.specs.Names.{Got, media_in, check_in, in_media, in_check}
 use Rattle.guarantee.specs.Kept as Kept
 use Rattle.guarantee.specs.Run.{Arrived, Ready, ready_at, arrives}
 use Rattle.guarantee.specs.Opening.{opening, opened-start, none-held}
@@ -59,24 +59,24 @@ module _ {w : Window} {a u : ℕ} {s : Store} {t : Stretch} {offers : List Offer
   believed a m e = ⊎_elim (λ n. n e) (Kept.never-lying L R.fills R.ordered.good R.holds R.unaltered) (arrived.believed a m)
 
   -- all that the store holds is unaltered again
-  holds-again : Holds w t y.store
-  holds-again = Kept.holds-again L R.fills R.ordered.good R.holds R.unaltered y.store arrived.runs
+  holds_again : Holds w t y.store
+  holds_again = Kept.holds_again L R.fills R.ordered.good R.holds R.unaltered y.store arrived.runs
 
   -- so it is a start, with the counts that it has then
-  start-again : Start (recount w arrived.fine.present arrived.fine.used) t y.store
-  start-again = record {
+  start_again : Start (recount w arrived.fine.present arrived.fine.used) t y.store
+  start_again = record {
     base-fits = R.within.based;
     fills = fills-on w arrived.fine.present arrived.fine.used t R.fills;
     passes = none_first (standing_tests (recount w arrived.fine.present arrived.fine.used) y.store 0 0)
         (stands w arrived.fine.present arrived.fine.used y.store R.within.faultless arrived.fine.order);
-    holds = holds_on w arrived.fine.present arrived.fine.used t holds-again;
+    holds = holds_on w arrived.fine.present arrived.fine.used t holds_again;
   }
 
   -- what is hidden is a stopping set of the theory
-  hidden-stopping : (S : ℕ → Bool) → Hidden w (received_from w s offers) S → Theory.Stopping (code w) (Got w s (counted w offers)) S
-  hidden-stopping S h = record {
-    unreceived = λ i x m. outside i (λ e. h.unreceived i e (media-in L R.fills R.ordered.good R.unaltered i x m).1);
-    never-one = λ k x m e. h.never-one k.0 k.1 (check-in L R.fills R.ordered.good R.unaltered k x m).1 (sym (count-keep S (group_of w k)) ∙ e);
+  hidden_stopping : (S : ℕ → Bool) → Hidden w (received_from w s offers) S → Theory.Stopping (code w) (Got w s (counted w offers)) S
+  hidden_stopping S h = record {
+    unreceived = λ i x m. outside i (λ e. h.unreceived i e (media_in L R.fills R.ordered.good R.unaltered i x m).1);
+    never-one = λ k x m e. h.never-one k.0 k.1 (check_in L R.fills R.ordered.good R.unaltered k x m).1 (sym (count-keep S (group_of w k)) ∙ e);
   }
     where
       outside : (i : ℕ) → (S i ≡ true → ⊥) → S i ≡ false
@@ -85,17 +85,17 @@ module _ {w : Window} {a u : ℕ} {s : Store} {t : Stretch} {offers : List Offer
   -- where the store is at rest
   module _ (still : Still (code w) (view w y.store)) where
     -- what is missing is hidden
-    missing-hidden : Hidden w (received_from w s offers) (λ i. ltb i w.n && Theory.miss (view w y.store) i)
-    missing-hidden = record {
+    missing_hidden : Hidden w (received_from w s offers) (λ i. ltb i w.n && Theory.miss (view w y.store) i)
+    missing_hidden = record {
       of_stretch = λ i e. ltb-true i w.n (both (ltb i w.n) (Theory.miss (view w y.store) i) e).0;
       unreceived = λ i e m. let b = both (ltb i w.n) (Theory.miss (view w y.store) i) e in
-          let x = in-media L R.fills R.ordered.good R.unaltered i (ltb-true i w.n b.0) m in
+          let x = in_media L R.fills R.ordered.good R.unaltered i (ltb-true i w.n b.0) m in
           true≢false (sym b.1 ∙ inv.all (Theory.media i x.0) x.1);
-      never-one = λ stream snbase m e. let c = in-check L R.fills R.ordered.good R.unaltered stream snbase m in
-          let h = check-in L R.fills R.ordered.good R.unaltered (stream, snbase) c.0 c.1 in
+      never-one = λ stream snbase m e. let c = in_check L R.fills R.ordered.good R.unaltered stream snbase m in
+          let h = check_in L R.fills R.ordered.good R.unaltered (stream, snbase) c.0 c.1 in
           (stopping (code w) inv still).never-one (stream, snbase) c.0 c.1
           (count-keep (Theory.miss (view w y.store)) (group w stream snbase)
-          ∙ ap length (keep-ext (Theory.miss (view w y.store)) kept (group w stream snbase) (inner stream snbase h.0)) ∙ e);
+          ∙ ap length (keep_ext (Theory.miss (view w y.store)) kept (group w stream snbase) (inner stream snbase h.0)) ∙ e);
     }
       where
         kept : ℕ → Bool
@@ -108,12 +108,12 @@ module _ {w : Window} {a u : ℕ} {s : Store} {t : Stretch} {offers : List Offer
     conclusions : Demand3 w t (received_from w s offers) answered y.store
     conclusions = record {
       mark = λ i h. ⊎_elim (λ e. inl (eqb-true (mark_at y.store i) 0 e)) (λ e. inr (mark-one arrived.fine.order.good i h e)) (decide (is_missing y.store.marks i));
-      present = holds-again.media;
+      present = holds_again.media;
       unspoilt = unspoilt;
       believed = believed;
       missing = λ i h. (
-        λ e. (λ j. ltb j w.n && Theory.miss (view w y.store) j, missing-hidden, rw (lt-ltb i w.n h, miss-mark w y.store i h, e)),
-        λ q. eqb-true (mark_at y.store i) 0 (sym (miss-mark w y.store i h) ∙ (missing-iff (code w) inv still i).1 (q.0, hidden-stopping q.0 q.1, q.2)),
+        λ e. (λ j. ltb j w.n && Theory.miss (view w y.store) j, missing_hidden, rw (lt-ltb i w.n h, miss-mark w y.store i h, e)),
+        λ q. eqb-true (mark_at y.store i) 0 (sym (miss-mark w y.store i h) ∙ (missing_iff (code w) inv still i).1 (q.0, hidden_stopping q.0 q.1, q.2)),
       );
     }
 
@@ -131,7 +131,7 @@ demand3-from x t offers G =
     record {
       set_up = rw A.fine.window;
       demand = conclusions R A (at_rest R A);
-      start = rw A.fine.window (start-again R A);
+      start = rw A.fine.window (start_again R A);
     }
 
 -- lists, one after the other
@@ -157,8 +157,8 @@ covered : {w : Window} (L : Limits w) {t u : Stretch} (F : Fills w t) (E : Fills
     (ok : (o : Offer) → Memᴰ o offers → Unaltered w t o) (ko : (o : Offer) → Memᴰ o others → Unaltered w u o)
     → ((x : Name) → Received (held_and w s offers) x → Received (held_and w r others) x) → Theory.Covered (Got w s offers) (Got w r others)
 covered {w} L F E G H ok ko sub = record {
-  of_media = λ i x m. let z = media-in L F G ok i x m in in-media L E H ko i z.0 (sub _ z.1);
-  of_check = λ k c m. in-check L E H ko k.0 k.1 (sub _ (check-in L F G ok k c m).1);
+  of_media = λ i x m. let z = media_in L F G ok i x m in in_media L E H ko i z.0 (sub _ z.1);
+  of_check = λ k c m. in_check L E H ko k.0 k.1 (sub _ (check_in L F G ok k c m).1);
 }
 
 -- from any starts of the same set_up numbers
@@ -214,8 +214,8 @@ all-count L F (o ∷ offers) ok = rw (unaltered-counts L F o.port o.datagram (ok
 
 module _ {w : Window} {lent : Store} {t : Stretch} {offers : List Offer} (a : w.present ≡ 0) (u : w.in_use ≡ 0) (G : Given w lent t offers) where
   -- what is received is what is in the list
-  received-list : received_from w (cleared w lent) offers ≡ names_of offers
-  received-list = none-held w lent offers ∙ ap names_of (all-count (limits w G.base-fits (opening w lent G.fresh).0) G.fills offers G.unaltered)
+  received_list : received_from w (cleared w lent) offers ≡ names_of offers
+  received_list = none-held w lent offers ∙ ap names_of (all-count (limits w G.base-fits (opening w lent G.fresh).0) G.fills offers G.unaltered)
 
   -- what demand 3 gives is such a start
   given-from : GivenFrom (opened w lent) t offers
@@ -224,7 +224,7 @@ module _ {w : Window} {lent : Store} {t : Stretch} {offers : List Offer} (a : w.
       rw e.1 (record {
         start = opened-start w lent t G.base-fits G.fills e.0 a u;
         unaltered = rw (all-count (limits w G.base-fits e.0) G.fills offers G.unaltered) G.unaltered;
-        few_groups = rw received-list G.few_groups;
+        few_groups = rw received_list G.few_groups;
       })
 
 -- demand 3
@@ -234,7 +234,7 @@ demand3 base ssrc l d p n k lent t offers G =
     let e = opening w lent G.fresh in
     let z : Demand3 (opened w lent).window t (received_from (opened w lent).window (opened w lent).store offers) (answers (opened w lent) offers) (run (opened w lent) offers).store =
     (demand3-from (opened w lent) t offers (given-from refl refl G)).demand in
-    rw (← received-list refl refl G) (subst (λ x. Demand3 x.window t (received_from x.window x.store offers) (answers (opened w lent) offers) (run (opened w lent) offers).store) e.1 z)
+    rw (← received_list refl refl G) (subst (λ x. Demand3 x.window t (received_from x.window x.store offers) (answers (opened w lent) offers) (run (opened w lent) offers).store) e.1 z)
 
 -- demand 3, of two lists
 pub demand3-same : ClaimSame
@@ -242,8 +242,8 @@ demand3-same base ssrc l d p n k lent other t u offers others G H names i h =
     let w : Window = asked base ssrc l d p n k in
     let e = opening w lent G.fresh in
     let f = opening w other H.fresh in
-    let a : received_from (opened w lent).window (opened w lent).store offers ≡ names_of offers = ap (λ x. received_from x.window x.store offers) e.1 ∙ received-list refl refl G in
-    let b : received_from (opened w other).window (opened w other).store others ≡ names_of others = ap (λ x. received_from x.window x.store others) f.1 ∙ received-list refl refl H in
+    let a : received_from (opened w lent).window (opened w lent).store offers ≡ names_of offers = ap (λ x. received_from x.window x.store offers) e.1 ∙ received_list refl refl G in
+    let b : received_from (opened w other).window (opened w other).store others ≡ names_of others = ap (λ x. received_from x.window x.store others) f.1 ∙ received_list refl refl H in
     demand3-same-from (opened w lent) (opened w other) t u offers others (given-from refl refl G) (given-from refl refl H) (rw (e.1, f.1))
     (rw (a, b) names) i (rw e.1 h)
 

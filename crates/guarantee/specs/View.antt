@@ -20,7 +20,7 @@ use Rattle.calls.specs.Content.{Recovery, content_at, recovery_at, fits}
 use Rattle.xor.specs.Laws.{packet}
 use Rattle.peel.specs.Peel.{Code, View, gone, miss}
 use Rattle.peel.specs.Group as Peel
-use Rattle.guarantee.specs.Ranges.{all_of, count-keep, keep-ext}
+use Rattle.guarantee.specs.Ranges.{all_of, count-keep, keep_ext}
 use Rattle.guarantee.specs.Packets.{Whole, Packet, xored, zeros, packet_of, content_from}
 use Rattle.guarantee.specs.Parts.{length_part}
 
@@ -131,7 +131,7 @@ module _ (w : Window) (s : Store) (i : ℕ) where
 
 -- of a list inside the window, as many are missing in the view as in the store
 pub miss-count : (w : Window) (s : Store) (g : List ℕ) → ((i : ℕ) → Memᴰ i g → i < w.n) → Peel.count (miss (view w s)) g ≡ length (missing s.marks g)
-miss-count w s g h = count-keep (miss (view w s)) g ∙ ap length (keep-ext (miss (view w s)) (is_missing s.marks) g (λ i m. miss-mark w s i (h i m)))
+miss-count w s g h = count-keep (miss (view w s)) g ∙ ap length (keep_ext (miss (view w s)) (is_missing s.marks) g (λ i m. miss-mark w s i (h i m)))
 
 -- ---- what a store in order satisfies
 

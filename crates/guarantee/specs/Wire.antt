@@ -90,14 +90,14 @@ module _ (o : Outer) (stream l d snbase' : ℕ) (v : Recovery) where
         small true v m h z = z
         small false v m h z = h
 
-        type-lt : by_na (na_of stream l d) 33 < 128
-        type-lt = small (eqb (na_of stream l d % 2) 0) 33 128 (omega arith) (omega arith)
+        type_lt : by_na (na_of stream l d) 33 < 128
+        type_lt = small (eqb (na_of stream l d % 2) 0) 33 128 (omega arith) (omega arith)
 
         fec : bad_fec (parity_packet o stream l d snbase' v) ≡ false
-        fec = rw (eq-eqb ((128 + by_na (na_of stream l d) 33) / 128) 1 (omega (arith, type-lt)), eq-eqb (stream * 64 / 128) 0 (omega arith), eq-eqb (stream * 64 / 8 % 8) 0 (omega arith), eq-eqb (stream * 64 % 8) 0 (omega arith))
+        fec = rw (eq-eqb ((128 + by_na (na_of stream l d) 33) / 128) 1 (omega (arith, type_lt)), eq-eqb (stream * 64 / 128) 0 (omega arith), eq-eqb (stream * 64 / 8 % 8) 0 (omega arith), eq-eqb (stream * 64 % 8) 0 (omega arith))
 
         recovery : bad_recovery stream l d (parity_packet o stream l d snbase' v) ≡ false
-        recovery = rw (eq-eqb ((128 + by_na (na_of stream l d) 33) % 128) (by_na (na_of stream l d) 33) (omega (arith, type-lt)))
+        recovery = rw (eq-eqb ((128 + by_na (na_of stream l d) 33) % 128) (by_na (na_of stream l d) 33) (omega (arith, type_lt)))
 
         profile : bad_profile stream l d (parity_packet o stream l d snbase' v) ≡ false
         profile = rw (eq-eqb (stream * 64 / 64 % 2) stream (omega arith), eq-eqb (offset_of stream l) (offset_of stream l) refl, eq-eqb (na_of stream l d) (na_of stream l d) refl, nr)

@@ -30,18 +30,18 @@ module _ (f : List ℕ) where
       rw (ec, eb, el, ed, ep, en, ek) (sym (rw (le-ltb (length f) header_size h, le-ltb most_entries (count_at f) m)))
 
 module _ (f : List ℕ) (i count : ℕ) (e : count ≡ (header_read f).count) where
-  pub entry-none : count ≤ i → no_entry ≡ entry_read f i
+  pub entry_none : count ≤ i → no_entry ≡ entry_read f i
   unfolding entry_read
-  entry-none h = sym (rw (← e, le-ltb i count h))
+  entry_none h = sym (rw (← e, le-ltb i count h))
 
   pub entry_past : i < count → length f < table_end (i + 1) → no_entry ≡ entry_read f i
   unfolding entry_read
   entry_past h k = sym (rw (← e, lt-ltb i count h, lt-leb (table_end (i + 1)) (length f) k))
 
-  pub entry-good : (port start size : ℕ) → i < count → table_end (i + 1) ≤ length f → port ≡ port_at f i → start ≡ start_at f i → size ≡ size_at f i
+  pub entry_good : (port start size : ℕ) → i < count → table_end (i + 1) ≤ length f → port ≡ port_at f i → start ≡ start_at f i → size ≡ size_at f i
       → ◌≡◌ {A = Line} (record { number = 0; port = port; start = start; length = size }) (entry_read f i)
   unfolding entry_read
-  entry-good port start size h k ep es en = rw (ep, es, en) (sym (rw (← e, lt-ltb i count h, le-leb (table_end (i + 1)) (length f) k)))
+  entry_good port start size h k ep es en = rw (ep, es, en) (sym (rw (← e, lt-ltb i count h, le-leb (table_end (i + 1)) (length f) k)))
 
 -- the bytes of a length and of a start, as they are read one after the other
 pub size-bytes : (f : List ℕ) (a : ℕ) → be16 (byte f (a + 2)) (byte f (a + 2 + 1)) ≡ be16 (byte f (a + 2)) (byte f (a + 3))

@@ -68,8 +68,8 @@ module _ (r : Reader) (s : Stage) where
   pub in_head : r.stage ≡ 0 → (s ≡ head_from r.at r.left) × Small s → Is r s
   in_head e h = (h.0 ∙ sym (rw (eq-eqb r.stage 0 e)), h.1)
 
-  pub in-line : (r.stage ≡ 0 → ⊥) → r.stage ≡ 1 → (s ≡ line_from r.left r.next r.sum r.at r.size) × Small s → Is r s
-  in-line n e h = (h.0 ∙ sym (rw (ne_eqb r.stage 0 n, eq-eqb r.stage 1 e)), h.1)
+  pub in_line : (r.stage ≡ 0 → ⊥) → r.stage ≡ 1 → (s ≡ line_from r.left r.next r.sum r.at r.size) × Small s → Is r s
+  in_line n e h = (h.0 ∙ sym (rw (ne_eqb r.stage 0 n, eq-eqb r.stage 1 e)), h.1)
 
   pub in_body : (r.stage ≡ 0 → ⊥) → (r.stage ≡ 1 → ⊥) → r.stage ≡ 2 → (s ≡ body_from r.left) × Small s → Is r s
   in_body n m e h = (h.0 ∙ sym (rw (ne_eqb r.stage 0 n, ne_eqb r.stage 1 m, eq-eqb r.stage 2 e)), h.1)

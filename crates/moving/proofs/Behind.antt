@@ -17,7 +17,7 @@ use Rattle.window.specs.Limits.{width}
 use Rattle.window.specs.Bounds.{SetUp}
 use Rattle.window.specs.Group.{position, group}
 use Rattle.window.specs.Order.{used}
-use Rattle.window.specs.Plain.{Inside, shape_of, group-plain}
+use Rattle.window.specs.Plain.{Inside, shape_of, group_plain}
 use Rattle.window.specs.Store.{stored}
 use Rattle.calls.specs.State.{scene}
 use Rattle.calls.specs.Call.{begun}
@@ -26,7 +26,7 @@ use Rattle.table.specs.View.{Row, slot_at, it_at, scatter}
 use Rattle.table.specs.Apart.{Fits, same_length}
 use Rattle.table.specs.Sound.{Sound}
 use Rattle.engine.specs.Rows.{Desk, free_below}
-use Rattle.engine.proofs.Free.{desk, first_holds, Keeps, keeps-all, row-record, free-each}
+use Rattle.engine.proofs.Free.{desk, first_holds, Keeps, keeps-all, row_record, free-each}
 use Rattle.moving.specs.Rows.{row_behind}
 
 -- some place of a line lies below a number where the first one does
@@ -48,7 +48,7 @@ module _ (w : Window) (based : w.base < 2 ^ width) (u : SetUp w) (by : ℕ) wher
   -- a group that lies in the window has a member behind where it begins there
   group-behind : (stream snbase : ℕ) → Inside w stream snbase → any (λ i. ltb i by) (group w stream snbase) ≡ ltb (position w snbase) by
   group-behind stream snbase i =
-      ap (any (λ i. ltb i by)) (group-plain w based u stream snbase i)
+      ap (any (λ i. ltb i by)) (group_plain w based u stream snbase i)
       ∙ line-below (position w snbase) (offset_of stream w.l) (na_of stream w.l w.d) by (shape_of w.l w.d stream u.profile).na-low
 
   behind-used : (gs : List Row) (i : ℕ) → row_behind w.base by gs i ≡ true → used (it_at gs i) ≡ true
@@ -64,7 +64,7 @@ module _ (w : Window) (based : w.base < 2 ^ width) (u : SetUp w) (by : ℕ) wher
     module _ (media timestamps lengths : List ℕ) (t : List Record) (f : Fits t w.k hs) where
       agree : (d : Desk) → Keeps w marks (length parity) hs d → (i : ℕ) → i < length hs
           → behind by (scene d.window (stored media timestamps lengths marks d.parity (scatter d.rows t)) 0 0) (slot_at hs i) ≡ row_behind w.base by d.rows i
-      agree d k i l = rw (row-record w marks hs (length parity) room media timestamps lengths t f 0 0 d k i l, k.same) (go (omega (arith, l, same_length hs d.rows k.same-slots)) (used (it_at d.rows i)) refl)
+      agree d k i l = rw (row_record w marks hs (length parity) room media timestamps lengths t f 0 0 d k i l, k.same) (go (omega (arith, l, same_length hs d.rows k.same-slots)) (used (it_at d.rows i)) refl)
         where
           go : i < length d.rows → (b : Bool) → used (it_at d.rows i) ≡ b
               → (b && any (λ j. ltb j by) (group w (it_at d.rows i).stream (it_at d.rows i).snbase)) ≡ (b && ltb (position w (it_at d.rows i).snbase) by)

@@ -48,11 +48,11 @@ module _ (w : Window) (s : Store) (i : ℕ) where
     none : leaving w s i ≡ []
     none = rw (eq-eqb (get_or s.marks i 0) 0 lost)
 
-    pub lost-slot : (out out' : List ℕ) → out' ≡ paste out 0 (replicate (slot_size w) 0) (slot_size w) → out' ≡ over (padded (slot_size w) (leaving w s i)) out
-    lost-slot out out' e = e ∙ zeros-over (slot_size w) out ∙ ap (λ (l : List ℕ). over (padded (slot_size w) l) out) (sym none)
+    pub lost_slot : (out out' : List ℕ) → out' ≡ paste out 0 (replicate (slot_size w) 0) (slot_size w) → out' ≡ over (padded (slot_size w) (leaving w s i)) out
+    lost_slot out out' e = e ∙ zeros-over (slot_size w) out ∙ ap (λ (l : List ℕ). over (padded (slot_size w) l) out) (sym none)
 
-    pub lost-size : ◌≡◌ {A = ℕ} 0 (length (leaving w s i))
-    lost-size = ap length (sym none)
+    pub lost_size : ◌≡◌ {A = ℕ} 0 (length (leaving w s i))
+    lost_size = ap length (sym none)
 
   -- it is present
   module _ (held : get_or s.marks i 0 ≡ 0 → ⊥) (size : ℕ) (is : size ≡ length_at s i) (low : size ≤ w.p) (long : i * w.p + w.p ≤ length s.media) where
@@ -143,8 +143,8 @@ module _ (w : Window) (s : Store) where
           rw (ne_eqb (length (head ++ body)) 0 (λ e. omega (arith, length-append head body)))
 
   -- one packet is one at most
-  pub one-most : (i v : ℕ) → v ≡ cond (eqb (length (leaving w s i)) 0) 0 1 → v ≤ 1
-  one-most i v e = go (eqb (length (leaving w s i)) 0) e
+  pub one_most : (i v : ℕ) → v ≡ cond (eqb (length (leaving w s i)) 0) 0 1 → v ≤ 1
+  one_most i v e = go (eqb (length (leaving w s i)) 0) e
     where
       go : (b : Bool) → ◌≡◌ {A = ℕ} v (cond b 0 1) → v ≤ 1
       go true e = omega arith

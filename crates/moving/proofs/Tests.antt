@@ -38,8 +38,8 @@ module _ (w : Window) (by : ℕ) (z : Sizes) (room count : ℕ) (lengths marks :
   }
 
   -- 1 to 3
-  pub set-up-stops : (r : ℕ) → r ≡ first (set_up_tests w) → (r ≡ 0 → ⊥) → Judged w by z room count lengths marks hs hs r
-  set-up-stops r e h = refuses r h (λ s out sizes. e ∙ first_stops (set_up_tests w) ((22, bad_move w by) ∷ rest w s (short_outputs w by out sizes)) (λ q. h (e ∙ q)))
+  pub set_up-stops : (r : ℕ) → r ≡ first (set_up_tests w) → (r ≡ 0 → ⊥) → Judged w by z room count lengths marks hs hs r
+  set_up-stops r e h = refuses r h (λ s out sizes. e ∙ first_stops (set_up_tests w) ((22, bad_move w by) ∷ rest w s (short_outputs w by out sizes)) (λ q. h (e ∙ q)))
 
   module _ (ok : first (set_up_tests w) ≡ 0) where
     goes : (r : ℕ) (s : Store) (out sizes : List ℕ) → r ≡ first ((22, bad_move w by) ∷ rest w s (short_outputs w by out sizes)) → r ≡ first (move_tests w by s out sizes)

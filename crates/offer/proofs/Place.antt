@@ -39,23 +39,23 @@ module _ (w : Window) (g : List ℕ) (s : Store) (i : ℕ) (e : i ≡ position w
   outside h = first_hit 13 _ _ (ap not (le-ltb (position w (sequence_number g)) w.n (rw e at h)))
 
   module _ (h : i < w.n) where
-    past-13 : (r : ℕ) → r ≡ first (drop 1 (media_place_tests w g s)) → r ≡ first (media_place_tests w g s)
-    past-13 r k = first_past r 13 _ _ (ap not (lt-ltb (position w (sequence_number g)) w.n (rw e at h))) k
+    past_13 : (r : ℕ) → r ≡ first (drop 1 (media_place_tests w g s)) → r ≡ first (media_place_tests w g s)
+    past_13 r k = first_past r 13 _ _ (ap not (lt-ltb (position w (sequence_number g)) w.n (rw e at h))) k
 
     pub free : get_or s.marks i 0 ≡ 0 → 0 ≡ first (media_place_tests w g s)
     free m =
         let l : is_missing s.marks (position w (sequence_number g)) ≡ true = eq-eqb _ 0 (rw e at m) in
-        past-13 0 (first_past 0 14 _ _ (rw l) (first_past 0 15 _ _ (ap not l) first-end))
+        past_13 0 (first_past 0 14 _ _ (rw l) (first_past 0 15 _ _ (ap not l) first-end))
 
     module _ (m : get_or s.marks i 0 ≡ 0 → ⊥) where
       held : not (is_missing s.marks (position w (sequence_number g))) ≡ true
       held = ap not (ne_eqb _ 0 (λ z. m (ap (λ (k : ℕ). get_or s.marks k 0) e ∙ z)))
 
       -- another length
-      pub otherwise-long : (get_or s.lengths i 0 ≡ length g - rtp_header_size → ⊥) → 15 ≡ first (media_place_tests w g s)
-      otherwise-long d =
+      pub otherwise_long : (get_or s.lengths i 0 ≡ length g - rtp_header_size → ⊥) → 15 ≡ first (media_place_tests w g s)
+      otherwise_long d =
           let f : eqb (length_at s (position w (sequence_number g))) (length (drop rtp_header_size g)) ≡ false = ne_eqb _ _ (λ z. d (ap (λ (k : ℕ). get_or s.lengths k 0) e ∙ z ∙ length-drop rtp_header_size g)) in
-          past-13 15 (first_past 15 14 _ _ (rw (held, f) (none (eqb (timestamp_at s (position w (sequence_number g))) (timestamp g)) _)) (first_hit 15 _ _ held))
+          past_13 15 (first_past 15 14 _ _ (rw (held, f) (none (eqb (timestamp_at s (position w (sequence_number g))) (timestamp g)) _)) (first_hit 15 _ _ held))
         where
           none : (b x : Bool) → (b && false && x) ≡ false
           none true x = refl
@@ -75,24 +75,24 @@ module _ (w : Window) (g : List ℕ) (s : Store) (i : ℕ) (e : i ≡ position w
             and-on false b = refl
 
         pub repeated : (eqb (get_or s.timestamps i 0) ts && is) ≡ true → 14 ≡ first (media_place_tests w g s)
-        repeated t = past-13 14 (first_hit 14 _ _ (rw (held, ← alike, t)))
+        repeated t = past_13 14 (first_hit 14 _ _ (rw (held, ← alike, t)))
 
         pub differs : (eqb (get_or s.timestamps i 0) ts && is) ≡ false → 15 ≡ first (media_place_tests w g s)
-        differs t = past-13 15 (first_past 15 14 _ _ (rw (held, ← alike, t)) (first_hit 15 _ _ held))
+        differs t = past_13 15 (first_past 15 14 _ _ (rw (held, ← alike, t)) (first_hit 15 _ _ held))
 
 -- ---- parity
 
 -- a group of which one is missing is not contradicted
 module _ (w : Window) (stream : ℕ) (g : List ℕ) (s : Store) (seen : Look) (el : seen ≡ look s.marks (group w stream (snbase g))) (lacks : Bool) (ek : lacks ≡ ltb 0 (at_least seen)) where
-  lacks-any : lacks ≡ any (is_missing s.marks) (group w stream (snbase g))
-  lacks-any = ek ∙ ap (λ (f : Look). ltb 0 (at_least f)) el ∙ lacks_is s.marks (group w stream (snbase g))
+  lacks_any : lacks ≡ any (is_missing s.marks) (group w stream (snbase g))
+  lacks_any = ek ∙ ap (λ (f : Look). ltb 0 (at_least f)) el ∙ lacks_is s.marks (group w stream (snbase g))
 
   pub uncontradicted : lacks ≡ true → false ≡ contradicts w stream g s
-  uncontradicted e = rw (← lacks-any, e)
+  uncontradicted e = rw (← lacks_any, e)
 
   -- a whole one is
   pub whole-group : lacks ≡ false → any (is_missing s.marks) (group w stream (snbase g)) ≡ false
-  whole-group e = sym lacks-any ∙ e
+  whole-group e = sym lacks_any ∙ e
 
   -- where it defines another recovery
   pub contradicted : lacks ≡ false → (b t n : ℕ) → b ≡ snbase g → t ≡ timestamp_recovery g → n ≡ length_recovery g → (is : Bool)
@@ -102,7 +102,7 @@ module _ (w : Window) (stream : ℕ) (g : List ℕ) (s : Store) (seen : Look) (e
       let carried : record { content = record { timestamp = t; length = n; payload = padded w.p (take (length g - parity_header_size) (drop parity_header_size g)) }; size = length g - parity_header_size } ≡ recovery_of w.p g =
       λ i. record { content = record { timestamp = et i; length = en i; payload = padded w.p (rest-is parity_header_size g i) }; size = sym (length-drop parity_header_size g) i } in
       let same : is ≡ same_recovery (recovery_over w s (group w stream (snbase g))) (recovery_of w.p g) = ei ∙ ap₂ (λ (n : ℕ) (r : Recovery). same_recovery (recovery_over w s (group w stream n)) r) eb carried in
-      rw (← lacks-any, e, same)
+      rw (← lacks_any, e, same)
 
 -- the first of the tests
 module _ (w : Window) (stream : ℕ) (g media timestamps lengths marks parity : List ℕ) (hs : List Row) (m : ℕ) (long : length hs ≡ m) (b : ℕ) (eb : b ≡ snbase g) where
@@ -117,39 +117,39 @@ module _ (w : Window) (stream : ℕ) (g media timestamps lengths marks parity : 
   refuses : (n : ℕ) → (n ≡ 0 → ⊥) → ((t : List Record) → Fits t w.k hs → n ≡ first (tests t)) → Found w stream g media timestamps lengths marks parity hs (no n)
   refuses n h is = record { is = is; inside = λ z. absurd (h z); looked = λ z. absurd (h z); room = λ z. absurd (h z) }
 
-  pub no-13 : inside w stream b ≡ false → Found w stream g media timestamps lengths marks parity hs (no 13)
-  no-13 e = refuses 13 (λ z. omega arith) (λ t f. first_hit 13 _ _ (ap (λ (n : ℕ). not (inside w stream n)) (sym eb) ∙ ap not e))
+  pub no_13 : inside w stream b ≡ false → Found w stream g media timestamps lengths marks parity hs (no 13)
+  no_13 e = refuses 13 (λ z. omega arith) (λ t f. first_hit 13 _ _ (ap (λ (n : ℕ). not (inside w stream n)) (sym eb) ∙ ap not e))
 
   module _ (i : inside w stream b ≡ true) (same : Bool) (es : same ≡ any (row_same w.p parity hs stream g) (up_to m)) where
-    beyond-13 : (t : List Record) (r : ℕ) → r ≡ first (drop 1 (tests t)) → r ≡ first (tests t)
-    beyond-13 t r k = first_past r 13 _ _ (ap (λ (n : ℕ). not (inside w stream n)) (sym eb) ∙ ap not i) k
+    beyond_13 : (t : List Record) (r : ℕ) → r ≡ first (drop 1 (tests t)) → r ≡ first (tests t)
+    beyond_13 t r k = first_past r 13 _ _ (ap (λ (n : ℕ). not (inside w stream n)) (sym eb) ∙ ap not i) k
 
     same-is : (t : List Record) → Fits t w.k hs → any (holds_same w (stored media timestamps lengths marks parity (scatter hs t)) stream g) (up_to w.k) ≡ same
     same-is t f = same_rows w stream g media timestamps lengths marks parity hs t f ∙ ap (λ (n : ℕ). any (row_same w.p parity hs stream g) (up_to n)) long ∙ sym es
 
-    pub no-14 : same ≡ true → Found w stream g media timestamps lengths marks parity hs (no 14)
-    no-14 e = refuses 14 (λ z. omega arith) (λ t f. beyond-13 t 14 (first_hit 14 _ _ (same-is t f ∙ e)))
+    pub no_14 : same ≡ true → Found w stream g media timestamps lengths marks parity hs (no 14)
+    no_14 e = refuses 14 (λ z. omega arith) (λ t f. beyond_13 t 14 (first_hit 14 _ _ (same-is t f ∙ e)))
 
     module _ (other : same ≡ false) (held : Bool) (eh : held ≡ any (row_holds hs stream b) (up_to m)) where
-      beyond-14 : (t : List Record) → Fits t w.k hs → (r : ℕ) → r ≡ first (drop 2 (tests t)) → r ≡ first (tests t)
-      beyond-14 t f r k = beyond-13 t r (first_past r 14 _ _ (same-is t f ∙ other) k)
+      beyond_14 : (t : List Record) → Fits t w.k hs → (r : ℕ) → r ≡ first (drop 2 (tests t)) → r ≡ first (tests t)
+      beyond_14 t f r k = beyond_13 t r (first_past r 14 _ _ (same-is t f ∙ other) k)
 
       held-is : (t : List Record) → Fits t w.k hs → any (holds w (stored media timestamps lengths marks parity (scatter hs t)) stream (snbase g)) (up_to w.k) ≡ held
       held-is t f = holds_rows w stream (snbase g) media timestamps lengths marks parity hs t f ∙ ap (λ (n : ℕ). any (row_holds hs stream (snbase g)) (up_to n)) long ∙ ap (λ (n : ℕ). any (row_holds hs stream n) (up_to m)) (sym eb) ∙ sym eh
 
-      pub no-15 : held ≡ true → Found w stream g media timestamps lengths marks parity hs (no 15)
-      no-15 e = refuses 15 (λ z. omega arith) (λ t f. beyond-14 t f 15 (first_hit 15 _ _ (held-is t f ∙ e)))
+      pub no_15 : held ≡ true → Found w stream g media timestamps lengths marks parity hs (no 15)
+      no_15 e = refuses 15 (λ z. omega arith) (λ t f. beyond_14 t f 15 (first_hit 15 _ _ (held-is t f ∙ e)))
 
       module _ (new : held ≡ false) (lie : Bool) (ec : (parity : List ℕ) (t : List Record) → lie ≡ contradicts w stream g (stored media timestamps lengths marks parity t)) where
-        beyond-15 : (t : List Record) → Fits t w.k hs → (r : ℕ) → r ≡ first (drop 3 (tests t)) → r ≡ first (tests t)
-        beyond-15 t f r k = beyond-14 t f r (first_past r 15 _ _ (held-is t f ∙ new) k)
+        beyond_15 : (t : List Record) → Fits t w.k hs → (r : ℕ) → r ≡ first (drop 3 (tests t)) → r ≡ first (tests t)
+        beyond_15 t f r k = beyond_14 t f r (first_past r 15 _ _ (held-is t f ∙ new) k)
 
-        pub no-18 : lie ≡ true → Found w stream g media timestamps lengths marks parity hs (no 18)
-        no-18 e = refuses 18 (λ z. omega arith) (λ t f. beyond-15 t f 18 (first_hit 18 _ _ (sym (ec parity (scatter hs t)) ∙ e)))
+        pub no_18 : lie ≡ true → Found w stream g media timestamps lengths marks parity hs (no 18)
+        no_18 e = refuses 18 (λ z. omega arith) (λ t f. beyond_15 t f 18 (first_hit 18 _ _ (sym (ec parity (scatter hs t)) ∙ e)))
 
         module _ (honest : lie ≡ false) (seen : Look) (el : seen ≡ look marks (group w stream b)) (waits : Bool) (ew : waits ≡ leb least_missing (at_least seen)) where
-          beyond-18 : (t : List Record) → Fits t w.k hs → (r : ℕ) → r ≡ first (drop 4 (tests t)) → r ≡ first (tests t)
-          beyond-18 t f r k = beyond-15 t f r (first_past r 18 _ _ (sym (ec parity (scatter hs t)) ∙ honest) k)
+          beyond_18 : (t : List Record) → Fits t w.k hs → (r : ℕ) → r ≡ first (drop 4 (tests t)) → r ≡ first (tests t)
+          beyond_18 t f r k = beyond_15 t f r (first_past r 18 _ _ (sym (ec parity (scatter hs t)) ∙ honest) k)
 
           seen-is : seen ≡ look marks (group w stream (snbase g))
           seen-is = el ∙ ap (λ (n : ℕ). look marks (group w stream n)) eb
@@ -157,12 +157,12 @@ module _ (w : Window) (stream : ℕ) (g media timestamps lengths marks parity : 
           full_is : (leb least_missing (length (missing marks (group w stream (snbase g)))) && not (ltb w.in_use w.k)) ≡ (waits && not (ltb w.in_use w.k))
           full_is = ap (λ (t : Bool). t && not (ltb w.in_use w.k)) (sym (ew ∙ ap (λ (f : Look). leb least_missing (at_least f)) seen-is ∙ waits-is marks (group w stream (snbase g))))
 
-          pub no-16 : (waits && not (ltb w.in_use w.k)) ≡ true → Found w stream g media timestamps lengths marks parity hs (no 16)
-          no-16 e = refuses 16 (λ z. omega arith) (λ t f. beyond-18 t f 16 (first_hit 16 _ _ (full_is ∙ e)))
+          pub no_16 : (waits && not (ltb w.in_use w.k)) ≡ true → Found w stream g media timestamps lengths marks parity hs (no 16)
+          no_16 e = refuses 16 (λ z. omega arith) (λ t f. beyond_18 t f 16 (first_hit 16 _ _ (full_is ∙ e)))
 
-          pub none-of-them : w.base < 2 ^ width → SetUp w → (waits && not (ltb w.in_use w.k)) ≡ false → Found w stream g media timestamps lengths marks parity hs (record { fault = 0; found = seen })
-          none-of-them based u e = record {
-            is = λ t f. beyond-18 t f 0 (first_past 0 16 _ _ (full_is ∙ e) first-end);
+          pub none_of_them : w.base < 2 ^ width → SetUp w → (waits && not (ltb w.in_use w.k)) ≡ false → Found w stream g media timestamps lengths marks parity hs (record { fault = 0; found = seen })
+          none_of_them based u e = record {
+            is = λ t f. beyond_18 t f 0 (first_past 0 16 _ _ (full_is ∙ e) first-end);
             inside = λ _. inside_of w based u stream (snbase g) (ap (inside w stream) (sym eb) ∙ i);
             looked = λ _. seen-is;
             room = λ _ l. ltb-true w.in_use w.k (not-false (ltb w.in_use w.k) (past waits (not (ltb w.in_use w.k)) (ew ∙ le-leb least_missing (at_least seen) l) e));

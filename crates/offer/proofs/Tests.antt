@@ -43,8 +43,8 @@ module _ (w : Window) (s : Store) (ts us : List (ℕ × Bool)) (n : Numbered ts)
     pub datagram-refuses : (r : ℕ) → r ≡ first ts → (r ≡ 0 → ⊥) → r ≡ first (standing_tests w s 0 0 ++ ts ++ us)
     datagram-refuses r f h = standing-goes w s 0 0 z r (ts ++ us) e o (f ∙ first_stops ts us (λ q. h (f ∙ q)))
 
-    pub place-decides : (y r : ℕ) → y ≡ first ts → y ≡ 0 → r ≡ first us → r ≡ first (standing_tests w s 0 0 ++ ts ++ us)
-    place-decides y r f q h = standing-goes w s 0 0 z r (ts ++ us) e o (h ∙ first_goes ts us n (sym f ∙ q))
+    pub place_decides : (y r : ℕ) → y ≡ first ts → y ≡ 0 → r ≡ first us → r ≡ first (standing_tests w s 0 0 ++ ts ++ us)
+    place_decides y r f q h = standing-goes w s 0 0 z r (ts ++ us) e o (h ∙ first_goes ts us n (sym f ∙ q))
 
 pub media-numbered : (p : ℕ) (g : List ℕ) → Numbered (media_tests p g)
 media-numbered p g = (tt, (tt, (tt, (tt, tt))))

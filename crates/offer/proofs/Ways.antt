@@ -31,7 +31,7 @@ use Rattle.order.specs.Stands.{Taken, Stands, Stood}
 use Rattle.engine.specs.Round.{Parts, over, Serves}
 use Rattle.offer.specs.declared.Offered.{Offered}
 use Rattle.offer.specs.Offer.{left, outcome, Accepted, Kept, Offer}
-use Rattle.offer.proofs.Tests.{standing-refuses, datagram-refuses, place-decides, media-numbered, parity-numbered, media-refused, media-taken, parity-refused, parity-taken}
+use Rattle.offer.proofs.Tests.{standing-refuses, datagram-refuses, place_decides, media-numbered, parity-numbered, media-refused, media-taken, parity-refused, parity-taken}
 use Rattle.offer.proofs.After.{plainly, take_none, take_more}
 
 -- a refusal
@@ -102,12 +102,12 @@ module _ (w : Window) (x : Parts) (len : ℕ) (hs : List Row) (z : ℕ) (stood :
     media-stands h = refuses (offered_media w g) z (λ t e k. media-refused w g (over x t) z (standing-refuses w (over x t) (media_tests w.p g) (media_place_tests w g (over x t)) (media-numbered w.p g) z (standing-is t e k) h) h)
 
     module _ (zero : z ≡ 0) (y : ℕ) (ey : y ≡ first (media_tests w.p g)) where
-      pub media-wrong : (y ≡ 0 → ⊥) → Offer (offered_media w g) w.k len x (no y w) noted
-      media-wrong h = refuses (offered_media w g) y (λ t e k. media-refused w g (over x t) y (datagram-refuses w (over x t) (media_tests w.p g) (media_place_tests w g (over x t)) (media-numbered w.p g) z (standing-is t e k) zero y ey h) h)
+      pub media_wrong : (y ≡ 0 → ⊥) → Offer (offered_media w g) w.k len x (no y w) noted
+      media_wrong h = refuses (offered_media w g) y (λ t e k. media-refused w g (over x t) y (datagram-refuses w (over x t) (media_tests w.p g) (media_place_tests w g (over x t)) (media-numbered w.p g) z (standing-is t e k) zero y ey h) h)
 
       module _ (fine : y ≡ 0) (q : ℕ) (eq : (parity : List ℕ) (t : List Record) → q ≡ first (media_place_tests w g (stored x.media x.timestamps x.lengths x.marks parity t))) where
         decided : (t : List Record) → length t ≡ len → Taken t w.k x.rows → q ≡ first (media_offer_tests w g (over x t))
-        decided t e k = place-decides w (over x t) (media_tests w.p g) (media_place_tests w g (over x t)) (media-numbered w.p g) z (standing-is t e k) zero y q ey fine (eq x.parity (scatter x.rows t))
+        decided t e k = place_decides w (over x t) (media_tests w.p g) (media_place_tests w g (over x t)) (media-numbered w.p g) z (standing-is t e k) zero y q ey fine (eq x.parity (scatter x.rows t))
 
         pub media-placed : (q ≡ 0 → ⊥) → Offer (offered_media w g) w.k len x (no q w) noted
         media-placed h = refuses (offered_media w g) q (λ t e k. media-refused w g (over x t) q (decided t e k) h)
@@ -121,13 +121,13 @@ module _ (w : Window) (x : Parts) (len : ℕ) (hs : List Row) (z : ℕ) (stood :
     parity-stands h = refuses (offered_parity stream w g) z (λ t e k. parity-refused w g (over x t) stream z (standing-refuses w (over x t) (parity_tests stream w.l w.d w.p g) (parity_place_tests w stream g (over x t)) (parity-numbered stream w.l w.d w.p g) z (standing-is t e k) h) h)
 
     module _ (zero : z ≡ 0) (y : ℕ) (ey : y ≡ first (parity_tests stream w.l w.d w.p g)) where
-      pub parity-wrong : (y ≡ 0 → ⊥) → Offer (offered_parity stream w g) w.k len x (no y w) noted
-      parity-wrong h = refuses (offered_parity stream w g) y (λ t e k. parity-refused w g (over x t) stream y (datagram-refuses w (over x t) (parity_tests stream w.l w.d w.p g) (parity_place_tests w stream g (over x t)) (parity-numbered stream w.l w.d w.p g) z (standing-is t e k) zero y ey h) h)
+      pub parity_wrong : (y ≡ 0 → ⊥) → Offer (offered_parity stream w g) w.k len x (no y w) noted
+      parity_wrong h = refuses (offered_parity stream w g) y (λ t e k. parity-refused w g (over x t) stream y (datagram-refuses w (over x t) (parity_tests stream w.l w.d w.p g) (parity_place_tests w stream g (over x t)) (parity-numbered stream w.l w.d w.p g) z (standing-is t e k) zero y ey h) h)
 
       module _ (fine : y ≡ 0) (q : ℕ) (eq : (t : List Record) → Fits t w.k hs → q ≡ first (parity_place_tests w stream g (over noted t))) where
         placed : (t : List Record) → length t ≡ len → Taken t w.k x.rows → q ≡ first (parity_offer_tests w stream g (over x t))
         placed t e k =
-            place-decides w (over x t) (parity_tests stream w.l w.d w.p g) (parity_place_tests w stream g (over x t)) (parity-numbered stream w.l w.d w.p g) z (standing-is t e k) zero y q ey fine
+            place_decides w (over x t) (parity_tests stream w.l w.d w.p g) (parity_place_tests w stream g (over x t)) (parity-numbered stream w.l w.d w.p g) z (standing-is t e k) zero y q ey fine
             (eq t (fits-now zero t e k) ∙ ap (λ (s : Store). first (parity_place_tests w stream g s)) (over-same t))
 
         pub parity-placed : (q ≡ 0 → ⊥) → Offer (offered_parity stream w g) w.k len x (no q w) noted
@@ -154,9 +154,9 @@ module _ (w : Window) (x : Parts) (len : ℕ) (hs : List Row) (z : ℕ) (stood :
           }
 
           -- enough are missing: it is held, and the store is at rest
-          pub parity-held : least_missing ≤ length (missing x.marks (group w stream (snbase g))) → w.in_use < w.k → (r : Offered) (parity : List ℕ) → Kept w stream g x.parity hs r parity
+          pub parity_held_lem : least_missing ≤ length (missing x.marks (group w stream (snbase g))) → w.in_use < w.k → (r : Offered) (parity : List ℕ) → Kept w stream g x.parity hs r parity
               → Offer (offered_parity stream w g) w.k len x r (record { media = x.media; timestamps = x.timestamps; lengths = x.lengths; marks = x.marks; parity = parity; rows = hs })
-          parity-held lacking room r parity a = record {
+          parity_held_lem lacking room r parity a = record {
             same-slots = stood.alike.same-slots;
             is = λ t e k. held t e k ∙ ap (λ (s : Store). settled (accept_parity stream g (begun w s))) (over-same t) ∙ takes t e k;
             still = λ c. absurd (let v : ◌≡◌ {A = Bool} true false = sym a.changes ∙ c in let u : ◌≡◌ {A = ℕ} 0 1 = cc in omega arith);

@@ -22,8 +22,8 @@ use Rattle.calls.specs.Call.{Outcome, no_window, zeroed, wiped, cleared, open_te
 -- ---- the tests
 module _ (w : Window) (z : Sizes) where
   -- refusals 1 to 3
-  pub set-up-stops : (r : ℕ) → r ≡ first (set_up_tests w) → (r ≡ 0 → ⊥) → r ≡ first (set_up_tests w ++ ((4, short_sizes w z) ∷ []))
-  set-up-stops r e h = e ∙ first_stops (set_up_tests w) ((4, short_sizes w z) ∷ []) (λ q. h (e ∙ q))
+  pub set_up-stops : (r : ℕ) → r ≡ first (set_up_tests w) → (r ≡ 0 → ⊥) → r ≡ first (set_up_tests w ++ ((4, short_sizes w z) ∷ []))
+  set_up-stops r e h = e ∙ first_stops (set_up_tests w) ((4, short_sizes w z) ∷ []) (λ q. h (e ∙ q))
 
   -- refusal 4
   pub short-stops : (r : ℕ) → r ≡ first (set_up_tests w) → r ≡ 0 → short_sizes w z ≡ true → 4 ≡ first (set_up_tests w ++ ((4, short_sizes w z) ∷ []))
@@ -78,8 +78,8 @@ module _ (w v : Window) (ew : w ≡ v) (media timestamps lengths marks parity : 
     sized t l = sizes-good w (lent t) (first-none (open_tests w (lent t)) (tt, (tt, (tt, (tt, tt)))) (sym (tests-are t l) ∙ z)).1.1.1.0
 
     -- what they leave known of each part
-    pub open-long : (w.n * w.p ≤ length media) × (w.n ≤ length timestamps) × (w.n ≤ length lengths) × (w.n ≤ length marks) × (w.k * w.p ≤ length parity) × (w.k ≤ len)
-    open-long =
+    pub open_long : (w.n * w.p ≤ length media) × (w.n ≤ length timestamps) × (w.n ≤ length lengths) × (w.n ≤ length marks) × (w.k * w.p ≤ length parity) × (w.k ≤ len)
+    open_long =
         let l = length-replicate {A = Record} len blank in
         let s = sized (replicate len blank) l in
         (s.media-long, s.timestamps-long, s.lengths-long, s.marks-long, s.parity-long, omega (arith, s.records-long))

@@ -65,8 +65,8 @@ module _ (w : Window) (marks : List ℕ) (hs : List Row) (i : ℕ) (v : Record) 
   told good n c h = subst (λ (u : Record). Told w marks hs i u good n c) e h
 
   -- a free row
-  pub free-row : v.in_use ≡ 0 → Told w marks hs i (it_at hs i) true 0 0
-  free-row z =
+  pub free_row_lem : v.in_use ≡ 0 → Told w marks hs i (it_at hs i) true 0 0
+  free_row_lem z =
       let o = ne_eqb v.in_use 1 (λ o. omega arith) in
       told true 0 0 (cond-true _ _ (eq-eqb v.in_use 0 z), flag-no (used v) o, omega arith, λ g u. no_way (sym o ∙ u))
 
@@ -82,24 +82,24 @@ module _ (w : Window) (marks : List ℕ) (hs : List Row) (i : ℕ) (v : Record) 
       refused r 0 is (cond-false _ _ (ne_eqb v.in_use 0 z) (and_left _ _ p), flag-no (used v) p, omega arith, λ g u. no_way g)
 
   module _ (r : Looked) (is : r ≡ record { good = false; used = 1; note = 0 }) (one : v.in_use ≡ 1) where
-    bad-row : (ltb (slot_at hs i) w.k && (shape_good w v.stream v.snbase && (good_length w.p v.payload_length && (not (any (names hs v) (up_to i)) && leb least_missing (missing_of w marks v))))) ≡ false → Told w marks hs i (it_at hs i) r.good r.used r.note
-    bad-row h = refused r 1 is (cond-false _ _ (ne_eqb v.in_use 0 (λ z. omega arith)) (and_right (used v) _ h), flag-yes (used v) (eq-eqb v.in_use 1 one), omega arith, λ g u. no_way g)
+    bad_row : (ltb (slot_at hs i) w.k && (shape_good w v.stream v.snbase && (good_length w.p v.payload_length && (not (any (names hs v) (up_to i)) && leb least_missing (missing_of w marks v))))) ≡ false → Told w marks hs i (it_at hs i) r.good r.used r.note
+    bad_row h = refused r 1 is (cond-false _ _ (ne_eqb v.in_use 0 (λ z. omega arith)) (and_right (used v) _ h), flag-yes (used v) (eq-eqb v.in_use 1 one), omega arith, λ g u. no_way g)
 
     -- a slot that is none of the window's records
     pub high-row : (s : ℕ) → s ≡ slot_at hs i → w.k ≤ s → Told w marks hs i (it_at hs i) r.good r.used r.note
-    high-row s es h = bad-row (and_left _ _ (le-ltb (slot_at hs i) w.k (omega arith)))
+    high-row s es h = bad_row (and_left _ _ (le-ltb (slot_at hs i) w.k (omega arith)))
 
     -- a bad shape
-    pub shapeless-row : (b : Bool) → b ≡ shape_good w v.stream v.snbase → not b ≡ true → Told w marks hs i (it_at hs i) r.good r.used r.note
-    shapeless-row b eb h = bad-row (and_right (ltb (slot_at hs i) w.k) _ (and_left _ _ (sym eb ∙ not-true b h)))
+    pub shapeless_row : (b : Bool) → b ≡ shape_good w v.stream v.snbase → not b ≡ true → Told w marks hs i (it_at hs i) r.good r.used r.note
+    shapeless_row b eb h = bad_row (and_right (ltb (slot_at hs i) w.k) _ (and_left _ _ (sym eb ∙ not-true b h)))
 
     -- a length that no payload has
-    pub lengthless-row : (b : Bool) → b ≡ good_length w.p v.payload_length → not b ≡ true → Told w marks hs i (it_at hs i) r.good r.used r.note
-    lengthless-row b eb h = bad-row (and_right (ltb (slot_at hs i) w.k) _ (and_right (shape_good w v.stream v.snbase) _ (and_left _ _ (sym eb ∙ not-true b h))))
+    pub lengthless_row : (b : Bool) → b ≡ good_length w.p v.payload_length → not b ≡ true → Told w marks hs i (it_at hs i) r.good r.used r.note
+    lengthless_row b eb h = bad_row (and_right (ltb (slot_at hs i) w.k) _ (and_right (shape_good w v.stream v.snbase) _ (and_left _ _ (sym eb ∙ not-true b h))))
 
     -- a group that a row before has
     pub repeated-row : (b : Bool) → b ≡ any (names hs v) (up_to i) → b ≡ true → Told w marks hs i (it_at hs i) r.good r.used r.note
-    repeated-row b eb h = bad-row (and_right (ltb (slot_at hs i) w.k) _ (and_right (shape_good w v.stream v.snbase) _ (and_right (good_length w.p v.payload_length) _ (and_left _ _ (ap not (sym eb ∙ h))))))
+    repeated-row b eb h = bad_row (and_right (ltb (slot_at hs i) w.k) _ (and_right (shape_good w v.stream v.snbase) _ (and_right (good_length w.p v.payload_length) _ (and_left _ _ (ap not (sym eb ∙ h))))))
 
   -- a row in use whose group waits, or not
   pub waiting-row : SetUp w → w.base < 2 ^ width → v.in_use ≡ 1 → (s : ℕ) → s ≡ slot_at hs i → s < w.k → (b : Bool) → b ≡ shape_good w v.stream v.snbase → not b ≡ false → (y : Bool) → y ≡ good_length w.p v.payload_length → not y ≡ false → (d : Bool) → d ≡ any (names hs v) (up_to i) → d ≡ false

@@ -96,13 +96,13 @@ module _ (w : Window) (media timestamps lengths marks parity : List ℕ) {t : Li
       ∙ ap (λ (u : Record). row_by w marks u (slot_at hs i) (any (names hs (it_at hs i)) (up_to i))) (row_is i l)
 
   -- the records are good where the rows are
-  pub records-good : records_good w S ≡ all (row_good w marks hs) (up_to (length hs))
-  records-good =
+  pub records_good_lem : records_good w S ≡ all (row_good w marks hs) (up_to (length hs))
+  records_good_lem =
       all-rows test f (λ r l g. free-good (record_at S r).in_use _ g)
       ∙ all_same (λ (i : ℕ). test (slot_at hs i)) (row_good w marks hs) (length hs) test-row
 
   -- as many records are in use as rows
-  pub used-rows : count (is_in_use w S) (up_to w.k) ≡ count (λ i. used (it_at hs i)) (up_to (length hs))
-  used-rows =
+  pub used_rows_lem : count (is_in_use w S) (up_to w.k) ≡ count (λ i. used (it_at hs i)) (up_to (length hs))
+  used_rows_lem =
       count-rows (is_in_use w S) f (λ r l g. none-used _ g)
       ∙ count_same (λ (i : ℕ). is_in_use w S (slot_at hs i)) (λ (i : ℕ). used (it_at hs i)) (length hs) (λ i l. ap used (row_is i l))

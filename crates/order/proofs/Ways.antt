@@ -18,7 +18,7 @@ use Rattle.window.specs.Store.{Store, stored, sizes_of, short_sizes, short_store
 use Rattle.window.specs.Bounds.{set_up_good}
 use Rattle.window.specs.Group.{is_missing}
 use Rattle.window.specs.Order.{used, is_mark, is_present, marks_good, lengths_good, records_good, counts_good, disorder}
-use Rattle.calls.specs.Standing.{set-up-stops, store-stops, order-stops, none-stops}
+use Rattle.calls.specs.Standing.{set_up-stops, store-stops, order-stops, none-stops}
 use Rattle.table.specs.View.{Row, it_at, scatter}
 use Rattle.table.specs.Apart.{Fits, Alike, alike_refl, alike-length, alike-it, length-scatter}
 use Rattle.table.specs.Hold.{used_rows, gap-few}
@@ -26,7 +26,7 @@ use Rattle.table.specs.Sound.{Sound}
 use Rattle.order.specs.Rows.{row_good, Ordered}
 use Rattle.order.specs.Stands.{Taken, Long, Stood}
 use Rattle.order.proofs.Agree.{count_most, count_same}
-use Rattle.order.proofs.Scattered.{records-good, used-rows}
+use Rattle.order.proofs.Scattered.{records_good_lem, used_rows_lem}
 
 -- ---- refusal 5
 
@@ -58,9 +58,9 @@ module _ (w : Window) (lengths marks : List ℕ) (hs hs' : List Row) (m : ℕ) (
       five
       stamped
       sized
-      (rows ∙ ap (λ (k : ℕ). all (row_good w marks hs) (up_to k)) (sym len) ∙ sym (records-good w media timestamps lengths marks parity f))
+      (rows ∙ ap (λ (k : ℕ). all (row_good w marks hs) (up_to k)) (sym len) ∙ sym (records_good_lem w media timestamps lengths marks parity f))
       (ap (eqb w.present) counted)
-      (ap (eqb w.in_use) (uses ∙ ap (λ (k : ℕ). count (λ i. used (it_at hs i)) (up_to k)) (sym len) ∙ sym (used-rows w media timestamps lengths marks parity f)))
+      (ap (eqb w.in_use) (uses ∙ ap (λ (k : ℕ). count (λ i. used (it_at hs i)) (up_to k)) (sym len) ∙ sym (used_rows_lem w media timestamps lengths marks parity f)))
       ∙ sym (not-not (marks_good w marks && lengths_good w lengths marks && records_good w s && counts_good w s))
 
   -- what the test of order says and leaves
@@ -103,11 +103,11 @@ long_of w z e =
 
 module _ (w : Window) (z : Sizes) (short : Bool) (lengths marks : List ℕ) (hs : List Row) where
   -- refusals 1 to 3
-  pub set-up-way : (r : ℕ) → r ≡ first (set_up_tests w) → (r ≡ 0 → ⊥) → Stood w z short lengths marks hs hs r
-  set-up-way r e h =
+  pub set_up_way : (r : ℕ) → r ≡ first (set_up_tests w) → (r ≡ 0 → ⊥) → Stood w z short lengths marks hs hs r
+  set_up_way r e h =
       record {
         alike = alike_refl hs;
-        is = λ media timestamps parity t ez taken. set-up-stops w (stored media timestamps lengths marks parity (scatter hs t)) short r e h;
+        is = λ media timestamps parity t ez taken. set_up-stops w (stored media timestamps lengths marks parity (scatter hs t)) short r e h;
         none = λ q. absurd (h q);
       }
 
@@ -117,8 +117,8 @@ module _ (w : Window) (z : Sizes) (short : Bool) (lengths marks : List ℕ) (hs 
     sizes-is s e = ap (λ (x : Bool). x || short) (sym (eb ∙ ap (short_sizes w) e))
 
     -- refusal 4
-    pub short-way : (b || short) ≡ true → Stood w z short lengths marks hs hs 4
-    short-way h =
+    pub short_way : (b || short) ≡ true → Stood w z short lengths marks hs hs 4
+    short_way h =
         record {
           alike = alike_refl hs;
           is = λ media timestamps parity t ez taken. let s = stored media timestamps lengths marks parity (scatter hs t) in store-stops w s short ok (sizes-is s ez ∙ h);
@@ -127,23 +127,23 @@ module _ (w : Window) (z : Sizes) (short : Bool) (lengths marks : List ℕ) (hs 
 
     module _ (h : (b || short) ≡ false) where
       -- the store is as long as the window needs
-      pub long-way : Long w z
-      long-way = long_of w z (sym eb ∙ (or_split b short h).0)
+      pub long_way : Long w z
+      long_way = long_of w z (sym eb ∙ (or_split b short h).0)
 
       -- a hand that is taken of a table fits it
-      fits-way : (media timestamps parity : List ℕ) (t : List Record) → z ≡ sizes_of (stored media timestamps lengths marks parity (scatter hs t)) → Taken t w.k hs → Fits t w.k hs
-      fits-way media timestamps parity t ez taken =
+      fits_way : (media timestamps parity : List ℕ) (t : List Record) → z ≡ sizes_of (stored media timestamps lengths marks parity (scatter hs t)) → Taken t w.k hs → Fits t w.k hs
+      fits_way media timestamps parity t ez taken =
           let e = ap (λ (x : Sizes). x.records) ez ∙ length-scatter hs t in
-          let l : w.k ≤ length t = omega (arith, long-way.records-long) in
+          let l : w.k ≤ length t = omega (arith, long_way.records-long) in
           record { apart = taken.apart l (set_up_good w ok).k-high; enough = l }
 
       module _ (hs' : List Row) (good : Bool) (o : Ordered w lengths marks hs hs' good) where
         -- refusal 5
-        pub order-way : not good ≡ true → Stood w z short lengths marks hs hs' 5
-        order-way g =
+        pub order_way : not good ≡ true → Stood w z short lengths marks hs hs' 5
+        order_way g =
             record {
               alike = o.alike;
-              is = λ media timestamps parity t ez taken. let s = stored media timestamps lengths marks parity (scatter hs t) in order-stops w s short ok (sizes-is s ez ∙ h) good (o.is media timestamps parity t (fits-way media timestamps parity t ez taken)) g;
+              is = λ media timestamps parity t ez taken. let s = stored media timestamps lengths marks parity (scatter hs t) in order-stops w s short ok (sizes-is s ez ∙ h) good (o.is media timestamps parity t (fits_way media timestamps parity t ez taken)) g;
               none = λ q. absurd (omega arith);
             }
 
@@ -154,16 +154,16 @@ module _ (w : Window) (z : Sizes) (short : Bool) (lengths marks : List ℕ) (hs 
             ∙ count_same (λ i. used (it_at hs' i)) (λ i. used (it_at hs i)) (length hs) (λ i l. ap (λ (v : Record). used v) (alike-it o.alike i))
 
         -- none of them
-        pub none-way : not good ≡ false → Stood w z short lengths marks hs hs' 0
-        none-way g =
+        pub none_way : not good ≡ false → Stood w z short lengths marks hs hs' 0
+        none_way g =
             record {
               alike = o.alike;
-              is = λ media timestamps parity t ez taken. let s = stored media timestamps lengths marks parity (scatter hs t) in none-stops w s short ok (sizes-is s ez ∙ h) good (o.is media timestamps parity t (fits-way media timestamps parity t ez taken)) g;
+              is = λ media timestamps parity t ez taken. let s = stored media timestamps lengths marks parity (scatter hs t) in none-stops w s short ok (sizes-is s ez ∙ h) good (o.is media timestamps parity t (fits_way media timestamps parity t ez taken)) g;
               none = λ q.
                   let y = not-false good g in
                   record {
                     set_up = set_up_good w ok;
-                    long = long-way;
+                    long = long_way;
                     fits = (or_split b short h).1;
                     sound = o.sound y;
                     lengths-low = o.lengths-low y;

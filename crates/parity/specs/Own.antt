@@ -40,22 +40,22 @@ module _ (n : ℕ) (f : ℕ → List ℕ) (each : (i : ℕ) → length (f i) ≡
 
   module _ (at : ℕ) (d : List ℕ) (room : at + n ≤ length d) where
     -- xored into what was pasted
-    lists-sum : (rows z : List ℕ) → n ≤ length z → xor_lists (map f rows) at n (paste d at z n) ≡ paste d at (zip_xor z (xor_payloads n (map f rows))) n
-    lists-sum [] z h = sym (pasted n at d (zip_xor z (replicate n 0)) z (take-zeros n z h))
-    lists-sum (i ∷ rows) z h =
+    lists_sum : (rows z : List ℕ) → n ≤ length z → xor_lists (map f rows) at n (paste d at z n) ≡ paste d at (zip_xor z (xor_payloads n (map f rows))) n
+    lists_sum [] z h = sym (pasted n at d (zip_xor z (replicate n 0)) z (take-zeros n z h))
+    lists_sum (i ∷ rows) z h =
         ap (xor_lists (map f rows) at n) (paste-xor d at z (f i) n room h)
-        ∙ lists-sum rows (zip_xor z (f i)) (le-zip n z (f i) h (omega (arith, each i)))
+        ∙ lists_sum rows (zip_xor z (f i)) (le-zip n z (f i) h (omega (arith, each i)))
         ∙ ap (λ (l : List ℕ). paste d at l n) (zip_assoc z (f i) (xor_payloads n (map f rows)))
 
     -- xored into what stood there
-    pub lists-over : (rows : List ℕ) → xor_lists (map f rows) at n d ≡ paste d at (zip_xor (drop at d) (xor_payloads n (map f rows))) n
-    lists-over rows = ap (xor_lists (map f rows) at n) (paste-self n [] at d room) ∙ lists-sum rows (drop at d) (simp length-drop (omega arith))
+    pub lists_over : (rows : List ℕ) → xor_lists (map f rows) at n d ≡ paste d at (zip_xor (drop at d) (xor_payloads n (map f rows))) n
+    lists_over rows = ap (xor_lists (map f rows) at n) (paste-self n [] at d room) ∙ lists_sum rows (drop at d) (simp length-drop (omega arith))
 
     -- xored into zeros
-    pub lists-laid : (rows : List ℕ) → xor_lists (map f rows) at n (paste d at (replicate n 0) n) ≡ paste d at (xor_payloads n (map f rows)) n
-    lists-laid rows =
+    pub lists_laid : (rows : List ℕ) → xor_lists (map f rows) at n (paste d at (replicate n 0) n) ≡ paste d at (xor_payloads n (map f rows)) n
+    lists_laid rows =
         let x : List ℕ = xor_payloads n (map f rows) in
-        lists-sum rows (replicate n 0) (omega (arith, length-replicate {A = ℕ} n 0))
+        lists_sum rows (replicate n 0) (omega (arith, length-replicate {A = ℕ} n 0))
         ∙ ap (λ (l : List ℕ). paste d at l n) (ap (λ (k : ℕ). zip_xor (replicate k 0) x) (sym (length-sum rows)) ∙ zip-zero x)
 
 -- ---- rows of p bytes each

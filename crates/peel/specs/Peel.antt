@@ -167,8 +167,8 @@ module _ {K C X : Type 0} (P : Code K C X) where
     pub spoilt : Spoilt then key carries
 
   -- later on, it is found all the same
-  pub spoiling-then : {os ps : List (Offer K C X)} {s t : View K C X} → Runs s os t → Spoiling t ps → Spoiling s (os ++ ps)
-  spoiling-then {os} {ps} r b = record {
+  pub spoiling_then : {os ps : List (Offer K C X)} {s t : View K C X} → Runs s os t → Spoiling t ps → Spoiling s (os ++ ps)
+  spoiling_then {os} {ps} r b = record {
     taken = os ++ b.taken;
     among = λ p m. ⊎_elim (mathlib.Core.List.Memᴰ.append_left ps) (λ n. mathlib.Core.List.Memᴰ.append_right os (b.among p n)) (mathlib.Core.List.Memᴰ.append_cases os m);
     then = b.then;
@@ -179,8 +179,8 @@ module _ {K C X : Type 0} (P : Code K C X) where
   }
 
   -- and of more offers
-  pub spoiling-more : {os : List (Offer K C X)} (ps : List (Offer K C X)) {s : View K C X} → Spoiling s os → Spoiling s (os ++ ps)
-  spoiling-more ps b =
+  pub spoiling_more : {os : List (Offer K C X)} (ps : List (Offer K C X)) {s : View K C X} → Spoiling s os → Spoiling s (os ++ ps)
+  spoiling_more ps b =
       record { taken = b.taken; among = λ p m. mathlib.Core.List.Memᴰ.append_left ps (b.among p m); then = b.then; runs = b.runs; key = b.key; carries = b.carries; spoilt = b.spoilt }
 
   -- ---- what offers determine
@@ -192,9 +192,9 @@ module _ {K C X : Type 0} (P : Code K C X) where
         → ((j : ℕ) → Memᴰ j (a ++ b) → Known R j (f j)) → x ≡ P.xor (P.value v) (sum P f (a ++ b)) → P.fits v x ≡ true → Known R i x
 
   -- more offers determine no less
-  pub known-mono : {R Q : Set (Offer K C X)} → Within R Q → {i : ℕ} {x : X} → Known R i x → Known Q i x
-  known-mono sub (received m) = received (sub _ m)
-  known-mono sub (rebuilt k v f a b m e r q z) = rebuilt k v f a b (sub _ m) e (λ j n. known-mono sub (r j n)) q z
+  pub known_mono : {R Q : Set (Offer K C X)} → Within R Q → {i : ℕ} {x : X} → Known R i x → Known Q i x
+  known_mono sub (received m) = received (sub _ m)
+  known_mono sub (rebuilt k v f a b m e r q z) = rebuilt k v f a b (sub _ m) e (λ j n. known_mono sub (r j n)) q z
 
   -- a stopping set: "some set of media packets, none received, of which no received parity packet covers exactly one" (00)
   pub record Stopping (R : Set (Offer K C X)) (S : ℕ → Bool) : Type 0 where
@@ -229,12 +229,12 @@ module _ {K C X : Type 0} (P : Code K C X) where
   sound-has s = record { known = λ i x e. received e; kept = λ k v h. h }
 
   -- more may be received
-  pub sound-mono : {R Q : Set (Offer K C X)} {s : View K C X} → Within R Q → Sound R s → Sound Q s
-  sound-mono sub v = record { known = λ i x e. known-mono sub (v.known i x e); kept = λ k w h. sub _ (v.kept k w h) }
+  pub sound_mono : {R Q : Set (Offer K C X)} {s : View K C X} → Within R Q → Sound R s → Sound Q s
+  sound_mono sub v = record { known = λ i x e. known_mono sub (v.known i x e); kept = λ k w h. sub _ (v.kept k w h) }
 
   -- a step keeps it
-  pub sound-step : {R : Set (Offer K C X)} {s t : View K C X} → Sound R s → Step s t → Sound R t
-  sound-step v st = record {
+  pub sound_step : {R : Set (Offer K C X)} {s t : View K C X} → Sound R s → Step s t → Sound R t
+  sound_step v st = record {
     known = λ i x e. ⊎_elim (v.known i x)
         (λ q. let r = q.2 in rebuilt q.0 q.1 r.f r.left r.right (v.kept _ _ r.held) r.is (λ j m. v.known j (r.f j) (r.rest j m)) r.adds q.3) (st.new i x e);
     kept = λ k w h. v.kept k w (st.sub k w h);
@@ -243,7 +243,7 @@ module _ {K C X : Type 0} (P : Code K C X) where
   -- taking in an offer keeps it, with that offer received
   pub sound-take : {R : Set (Offer K C X)} {p : Offer K C X} {s t : View K C X} → Sound R s → Take p s t → Sound (Plus R (p ∷ [])) t
   sound-take v st = record {
-    known = λ i x e. ⊎_elim (λ q. known-mono (λ p. inl) (v.known i x q)) (λ q. received (inr (mathlib.Core.List.Memᴰ.head (sym q)))) (st.new i x e);
+    known = λ i x e. ⊎_elim (λ q. known_mono (λ p. inl) (v.known i x q)) (λ q. received (inr (mathlib.Core.List.Memᴰ.head (sym q)))) (st.new i x e);
     kept = λ k w h. ⊎_elim (λ q. inl (v.kept k w q)) (λ q. inr (mathlib.Core.List.Memᴰ.head (sym q))) (st.sub k w h);
   }
 
@@ -257,9 +257,9 @@ module _ {K C X : Type 0} (P : Code K C X) where
 
   -- so a run keeps it, with its offers received
   pub sound-runs : {R : Set (Offer K C X)} {os : List (Offer K C X)} {s t : View K C X} → Sound R s → Runs s os t → Sound (Plus R os) t
-  sound-runs v done = sound-mono (λ p. inl) v
-  sound-runs {R} v (took {p} {os} a r) = sound-mono (plus-cons R p os) (sound-runs {R = Plus R (p ∷ [])} (sound-take v a) r)
-  sound-runs v (made a r) = sound-runs (sound-step v a) r
+  sound-runs v done = sound_mono (λ p. inl) v
+  sound-runs {R} v (took {p} {os} a r) = sound_mono (plus-cons R p os) (sound-runs {R = Plus R (p ∷ [])} (sound-take v a) r)
+  sound-runs v (made a r) = sound-runs (sound_step v a) r
 
   -- ---- unaltered offers
 
@@ -289,7 +289,7 @@ module _ {K C X : Type 0} (P : Code K C X) where
 
   -- two descriptions of what was received
   inv-same : {R Q : Set (Offer K C X)} {s : View K C X} → Within R Q → Within Q R → Inv R s → Inv Q s
-  inv-same sub sup v = record { sound = sound-mono sub v.sound; all = λ p m. v.all p (sup p m) }
+  inv-same sub sup v = record { sound = sound_mono sub v.sound; all = λ p m. v.all p (sup p m) }
 
   -- taking in an offer keeps it
   inv-take : {R : Set (Offer K C X)} {p : Offer K C X} {s t : View K C X} → Inv R s → Take p s t → Inv (Plus R (p ∷ [])) t
@@ -301,9 +301,9 @@ module _ {K C X : Type 0} (P : Code K C X) where
 
   module _ (sent : ℕ → X) where
     -- an unaltered check gives what was sent, from what was sent at its other members
-    gives-sent : (k : K) (v : C) (f : ℕ → X) (a : List ℕ) (i : ℕ) (b : List ℕ) (x : X) → Unaltered sent (check k v) → P.group k ≡ a ++ (i ∷ b)
+    gives_sent : (k : K) (v : C) (f : ℕ → X) (a : List ℕ) (i : ℕ) (b : List ℕ) (x : X) → Unaltered sent (check k v) → P.group k ≡ a ++ (i ∷ b)
         → ((j : ℕ) → Memᴰ j (a ++ b) → f j ≡ sent j) → x ≡ P.xor (P.value v) (sum P f (a ++ b)) → x ≡ sent i
-    gives-sent k v f a i b x ok e same q =
+    gives_sent k v f a i b x ok e same q =
         let t = total_ext P.xor P.zeros f sent (a ++ b) same in
         let u : P.value v ≡ sum P sent (a ++ (i ∷ b)) = rw e at ok.0 in
         rw (q, t, u, total-out P.xor P.zeros P.laws) (solve P.xor P.zeros P.laws _ _)
@@ -311,20 +311,20 @@ module _ {K C X : Type 0} (P : Code K C X) where
     -- unaltered offers determine only what was sent
     pub known-sent : {R : Set (Offer K C X)} → ((p : Offer K C X) → R p → Unaltered sent p) → {i : ℕ} {x : X} → Known R i x → x ≡ sent i
     known-sent ok (received m) = ok _ m
-    known-sent ok (rebuilt {i} {x} k v f a b m e r q z) = gives-sent k v f a i b x (ok _ m) e (λ j n. known-sent ok (r j n)) q
+    known-sent ok (rebuilt {i} {x} k v f a b m e r q z) = gives_sent k v f a i b x (ok _ m) e (λ j n. known-sent ok (r j n)) q
 
     module _ {R : Set (Offer K C X)} (ok : (p : Offer K C X) → R p → Unaltered sent p) where
       -- so no rebuild is spoilt
       pub unspoilt : {s : View K C X} → Sound R s → (k : K) (w : C) → Spoilt s k w → ⊥
       unspoilt v k w (i, x, r, e) =
           let u : Unaltered sent (check k w) = ok (check k w) (v.kept k w r.held) in
-          let q = gives-sent k w r.f r.left i r.right x u r.is (λ j m. known-sent ok (v.known j (r.f j) (r.rest j m))) r.adds in
+          let q = gives_sent k w r.f r.left i r.right x u r.is (λ j m. known-sent ok (v.known j (r.f j) (r.rest j m))) r.adds in
           let m : Memᴰ i (P.group k) = rw r.is (mathlib.Core.List.Memᴰ.append_right r.left (mathlib.Core.List.Memᴰ.head refl)) in
           true≢false (sym (u.1 i m) ∙ ap (P.fits w) (sym q) ∙ e)
 
       -- and a step loses nothing
-      pub inv-step : {s t : View K C X} → Inv R s → Step s t → Inv R t
-      inv-step {s} {t} v st = record { sound = sound-step v.sound st; all = λ p m. here-keeps st.keeps release p (v.all p m) }
+      pub inv_step : {s t : View K C X} → Inv R s → Step s t → Inv R t
+      inv_step {s} {t} v st = record { sound = sound_step v.sound st; all = λ p m. here-keeps st.keeps release p (v.all p m) }
         where
           release : Releases s t
           release k w h = ⊎_elim inl (λ z. ⊎_elim inr (λ b. absurd (unspoilt v.sound k w b)) z) (st.release k w h)
@@ -334,4 +334,4 @@ module _ {K C X : Type 0} (P : Code K C X) where
         → {s t : View K C X} → Inv R s → Runs s os t → Inv (Plus R os) t
     inv-runs ok v done = inv-same (λ p. inl) (λ p m. ⊎_elim (λ a. a) (λ a. absurd (mathlib.Core.List.Memᴰ.not-nil a)) m) v
     inv-runs {R} ok v (took {p} {os} a r) = inv-same (plus-cons R p os) (cons-plus R p os) (inv-runs {R = Plus R (p ∷ [])} (λ q m. ok q (plus-cons R p os q m)) (inv-take v a) r)
-    inv-runs ok v (made a r) = inv-runs ok (inv-step (λ p m. ok p (inl m)) v a) r
+    inv-runs ok v (made a r) = inv-runs ok (inv_step (λ p m. ok p (inl m)) v a) r

@@ -6,7 +6,7 @@ use Rattle.std.proofs.Math.Logic.{inl, inr, ⊎_elim}
 use mathlib.Core.List.{List, [], ◌∷◌, Memᴰ}
 use Prim.Native.Nat.{ℕ, zero, suc, ◌+◌, ◌≤◌, ◌<◌}
 use Rattle.peel.specs.Group.{count, count-one}
-use Rattle.peel.specs.Peel.{Code, View, gone, miss, there, miss-keeps, Rebuild, Spoilt, Step, Steps, stop, go_on, done, steps-run, Spoiling, spoiling-then}
+use Rattle.peel.specs.Peel.{Code, View, gone, miss, there, miss-keeps, Rebuild, Spoilt, Step, Steps, stop, go_on, done, steps-run, Spoiling, spoiling_then}
 
 -- at rest: of no check in hand exactly one member is missing
 abbrev pub Still : {K C X : Type 0} → Code K C X → View K C X → Type 0
@@ -39,13 +39,13 @@ module _ {K C X : Type 0} (P : Code K C X) where
       never {k} {v} {i} q = r k v q.held (rw q.is (count-one (miss s) q.left i q.right q.missing (λ j m. ap gone (q.rest j m))))
 
   -- a receiver at rest is so after a step
-  still-step : {s t : View K C X} → Still P s → Step P s t → Still P t
-  still-step r st k v h = rw (still-miss r st) (r k v (st.sub k v h))
+  still_step : {s t : View K C X} → Still P s → Step P s t → Still P t
+  still_step r st k v h = rw (still-miss r st) (r k v (st.sub k v h))
 
   -- and after any number of steps
   pub still-steps : {s t : View K C X} → Still P s → Steps P s t → Still P t
   still-steps r stop = r
-  still-steps r (go_on a q) = still-steps (still-step r a) q
+  still-steps r (go_on a q) = still-steps (still_step r a) q
 
 -- any engine: what its rounds need and keep (fit), what there is to spend (left), what was done (did) and how many checks were found spoilt.
 -- A round finds the receiver at rest and does nothing, or it does one thing and spends something; one that counts a check as spoilt has found
@@ -80,7 +80,7 @@ module _ {K C X : Type 0} (P : Code K C X) {A : Type 0} (E : Engine P A) where
   unfolding rounds
   rounds-clear zero a h = inl refl
   rounds-clear (suc n) a h = ⊎_elim
-      (λ e. ⊎_elim (λ r. inl (r ∙ e)) (λ b. inr (spoiling-then P (steps-run P (E.steps a h)) b)) (rounds-clear n (E.one a) (E.keeps a h)))
+      (λ e. ⊎_elim (λ r. inl (r ∙ e)) (λ b. inr (spoiling_then P (steps-run P (E.steps a h)) b)) (rounds-clear n (E.one a) (E.keeps a h)))
       (λ z. inr (record { taken = []; among = λ p m. m; then = E.see a; runs = done; key = z.0; carries = z.1; spoilt = z.2 })) (E.clear a h)
 
   -- as many rounds as there is to spend, or more, bring the receiver to rest
@@ -91,11 +91,11 @@ module _ {K C X : Type 0} (P : Code K C X) {A : Type 0} (E : Engine P A) where
       ⊎_elim (λ r. still-steps P r.1 (rounds-steps (suc n) a h)) (λ r. rounds-still n (E.one a) (E.keeps a h) (omega (arith, r.0))) (E.work a h)
 
   -- a budget of which less was done has brought the receiver to rest
-  pub rounds-quiet : (b : ℕ) (a : A) → E.fit a → E.did (rounds E.one b a) < E.did a + b → Still P (E.see (rounds E.one b a))
+  pub rounds_quiet : (b : ℕ) (a : A) → E.fit a → E.did (rounds E.one b a) < E.did a + b → Still P (E.see (rounds E.one b a))
   unfolding rounds
-  rounds-quiet zero a h l = absurd (omega arith)
-  rounds-quiet (suc b) a h l =
-      ⊎_elim (λ r. still-steps P r.1 (rounds-steps (suc b) a h)) (λ r. rounds-quiet b (E.one a) (E.keeps a h) (omega (arith, r.1))) (E.work a h)
+  rounds_quiet zero a h l = absurd (omega arith)
+  rounds_quiet (suc b) a h l =
+      ⊎_elim (λ r. still-steps P r.1 (rounds-steps (suc b) a h)) (λ r. rounds_quiet b (E.one a) (E.keeps a h) (omega (arith, r.1))) (E.work a h)
 
   -- at rest rounds do nothing
   idle : (n : ℕ) (a : A) → E.one a ≡ a → rounds E.one n a ≡ a
@@ -104,12 +104,12 @@ module _ {K C X : Type 0} (P : Code K C X) {A : Type 0} (E : Engine P A) where
   idle (suc n) a e = ap (rounds E.one n) e ∙ idle n a e
 
   -- and one of which all was done has spent as much, so there are no more of those than there was to spend
-  pub rounds-spend : (b : ℕ) (a : A) → E.fit a → (E.did (rounds E.one b a) < E.did a + b) ⊎ (E.left (rounds E.one b a) + b ≤ E.left a)
+  pub rounds_spend : (b : ℕ) (a : A) → E.fit a → (E.did (rounds E.one b a) < E.did a + b) ⊎ (E.left (rounds E.one b a) + b ≤ E.left a)
   unfolding rounds
-  rounds-spend zero a h = inr (omega arith)
-  rounds-spend (suc b) a h = ⊎_elim
+  rounds_spend zero a h = inr (omega arith)
+  rounds_spend (suc b) a h = ⊎_elim
       (λ r. inl (let e = idle (suc b) a r.0 in let d : E.did (rounds E.one b (E.one a)) ≡ E.did a = ap E.did e in omega (arith, d)))
-      (λ r. ⊎_elim (λ l. inl (omega (arith, l, r.1))) (λ l. inr (omega (arith, l, r.0))) (rounds-spend b (E.one a) (E.keeps a h))) (E.work a h)
+      (λ r. ⊎_elim (λ l. inl (omega (arith, l, r.1))) (λ l. inr (omega (arith, l, r.0))) (rounds_spend b (E.one a) (E.keeps a h))) (E.work a h)
 
   -- of calls with these budgets, one after the other, some call does less than its budget
   pub data Quiet : List ℕ → A → Type 0 where
@@ -117,7 +117,7 @@ module _ {K C X : Type 0} (P : Code K C X) {A : Type 0} (E : Engine P A) where
     later : {b : ℕ} {bs : List ℕ} {a : A} → Quiet bs (rounds E.one b a) → Quiet (b ∷ bs) a
 
   -- one call more than there is to spend is enough, if none has a budget of nothing
-  pub budgets-quiet : (bs : List ℕ) (a : A) → E.fit a → ((b : ℕ) → Memᴰ b bs → 0 < b) → E.left a < length bs → Quiet bs a
-  budgets-quiet [] a h some l = absurd (omega arith)
-  budgets-quiet (b ∷ bs) a h some l = ⊎_elim now
-      (λ q. later (budgets-quiet bs (rounds E.one b a) (rounds-keep b a h) (λ c m. some c (Memᴰ.tail m)) (omega (arith, q, some b (Memᴰ.head refl))))) (rounds-spend b a h)
+  pub budgets_quiet : (bs : List ℕ) (a : A) → E.fit a → ((b : ℕ) → Memᴰ b bs → 0 < b) → E.left a < length bs → Quiet bs a
+  budgets_quiet [] a h some l = absurd (omega arith)
+  budgets_quiet (b ∷ bs) a h some l = ⊎_elim now
+      (λ q. later (budgets_quiet bs (rounds E.one b a) (rounds-keep b a h) (λ c m. some c (Memᴰ.tail m)) (omega (arith, q, some b (Memᴰ.head refl))))) (rounds_spend b a h)

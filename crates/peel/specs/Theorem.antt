@@ -1,6 +1,6 @@
 -- What every receiver shares that did only what specs/Peel.antt allows and has come to rest, whatever its engine:
--- what it has was sent (right), what it lacks no engine could rebuild (missing-iff), and neither the order of the offers nor
--- the engine matters (same, engines-agree).
+-- what it has was sent (right), what it lacks no engine could rebuild (missing_iff), and neither the order of the offers nor
+-- the engine matters (same, engines_agree).
 use Rattle.std.specs.Prelude.{◌≡◌, refl, ◌↔◌, ◌≢◌, ◌⊎◌, Bool, true, false, List, [], ℕ}
 use Rattle.std.proofs.Common.{sym, ◌∙◌, ap, inl, inr, ⊎_elim, true≢false, arith}
 use Rattle.std.proofs.Math.Option.{Option, none, some}
@@ -35,8 +35,8 @@ module _ {K C X : Type 0} (P : Code K C X) where
         no_one k (inr n) = λ e. let z = count_none (miss s) (P.group k) n in omega arith
 
     -- a position is missing exactly if it lies in a stopping set
-    pub missing-iff : (i : ℕ) → (miss s i ≡ true) ↔ ((S : ℕ → Bool) × Stopping P R S × (S i ≡ true))
-    missing-iff i = (λ e. (miss s, stopping, e), λ w. stopping-missing v.sound w.1 i w.2)
+    pub missing_iff : (i : ℕ) → (miss s i ≡ true) ↔ ((S : ℕ → Bool) × Stopping P R S × (S i ≡ true))
+    missing_iff i = (λ e. (miss s, stopping, e), λ w. stopping-missing v.sound w.1 i w.2)
 
     -- what another receiver has that was offered no more, this one has
     pub more : {Q : Set (Offer K C X)} {t : View K C X} → Sound P Q t → Covered Q R → (i : ℕ) → miss t i ≡ false → miss s i ≡ false
@@ -64,9 +64,9 @@ module _ {K C X : Type 0} (P : Code K C X) where
       some p m = ok p (⊎_elim inl (λ n. inr (b.among p n)) m)
 
   -- two engines, each at its end from one receiver that has only unaltered packets, leave the same packets
-  pub engines-agree : (sent : ℕ → X) (s t u : View K C X) → ((p : Offer K C X) → Has s p → Unaltered P sent p)
+  pub engines_agree : (sent : ℕ → X) (s t u : View K C X) → ((p : Offer K C X) → Has s p → Unaltered P sent p)
       → Steps P s t → Still P t → Steps P s u → Still P u → (i : ℕ) → t.slot i ≡ u.slot i
-  engines-agree sent s t u ok a p b q i = go (t.slot i) (u.slot i) refl refl
+  engines_agree sent s t u ok a p b q i = go (t.slot i) (u.slot i) refl refl
       (same (inv a) p (inv b) q (record { of_media = λ i x m. (x, m); of_check = λ k v m. (v, m) }) (record { of_media = λ i x m. (x, m); of_check = λ k v m. (v, m) }) i)
     where
       known : (p : Offer K C X) → Plus (Has s) [] p → Unaltered P sent p

@@ -116,13 +116,13 @@ whole w stream snbase marks k f y = all-present marks (group w stream snbase) (f
 
 module _ (stream : ℕ) (w : Window) (snbase : ℕ) (o : Outer) (s : Store) (out : List ℕ) where
   -- a test applies
-  write-no : (r : ℕ) → r ≡ first (write_tests w stream snbase s out) → (r ≡ 0 → ⊥) → no r w out ≡ wrote_parity stream w snbase o s out
+  write_no : (r : ℕ) → r ≡ first (write_tests w stream snbase s out) → (r ≡ 0 → ⊥) → no r w out ≡ wrote_parity stream w snbase o s out
   unfolding wrote_parity
-  write-no r e h = rw (← e, ne_eqb r 0 h)
+  write_no r e h = rw (← e, ne_eqb r 0 h)
 
   -- one of refusals 1 to 5
-  pub write-stops : (r : ℕ) → r ≡ first (standing_tests w s (length out) (parity_header_size + w.p)) → (r ≡ 0 → ⊥) → no r w out ≡ wrote_parity stream w snbase o s out
-  write-stops r e h = write-no r (standing-stops w s (length out) (parity_header_size + w.p) r (group_tests w stream snbase s.marks) e h) h
+  pub write_stops : (r : ℕ) → r ≡ first (standing_tests w s (length out) (parity_header_size + w.p)) → (r ≡ 0 → ⊥) → no r w out ≡ wrote_parity stream w snbase o s out
+  write_stops r e h = write_no r (standing-stops w s (length out) (parity_header_size + w.p) r (group_tests w stream snbase s.marks) e h) h
 
   module _ (r : ℕ) (z : r ≡ 0) (k : ℕ) (f : k ≡ first (group_tests w stream snbase s.marks)) (e : r ≡ first (standing_tests w s (length out) (parity_header_size + w.p))) where
     -- the call's own tests decide
@@ -131,14 +131,14 @@ module _ (stream : ℕ) (w : Window) (snbase : ℕ) (o : Outer) (s : Store) (out
 
     -- one of refusals 12, 13 and 17
     pub group-stops : (k ≡ 0 → ⊥) → no k w out ≡ wrote_parity stream w snbase o s out
-    group-stops h = write-no k write_goes h
+    group-stops h = write_no k write_goes h
 
     module _ (y : k ≡ 0) where
       -- no test applies
-      write-yes : (size : ℕ) (datagram : List ℕ) → size ≡ longest (map (length_at s) (group w stream snbase)) → datagram ≡ parity_of w o stream snbase s
+      write_yes : (size : ℕ) (datagram : List ℕ) → size ≡ longest (map (length_at s) (group w stream snbase)) → datagram ≡ parity_of w o stream snbase s
           → yes (parity_header_size + size) w (over datagram out) ≡ wrote_parity stream w snbase o s out
       unfolding wrote_parity
-      write-yes size datagram ez ed = rw (← write_goes, y, ez, ed)
+      write_yes size datagram ez ed = rw (← write_goes, y, ez, ed)
 
       -- the exclusive-or of the payloads laid behind the headers, as long as the longest of them, then the headers written
       pub write_done : (stamps lengths size : ℕ) (one two : List ℕ)
@@ -163,4 +163,4 @@ module _ (stream : ℕ) (w : Window) (snbase : ℕ) (o : Outer) (s : Store) (out
           (e2
           ∙ ap (λ (t : List ℕ). sets t 0 (head lengths stamps)) (e1 ∙ ap (λ (l : List ℕ). paste out parity_header_size (x l) size) all)
           ∙ laid (head lengths stamps) (x these) out parity_header_size size refl (omega (arith, g.fits)) (omega arith))
-          ∙ write-yes size (head lengths stamps ++ take size (x these)) ez' is
+          ∙ write_yes size (head lengths stamps ++ take size (x these)) ez' is

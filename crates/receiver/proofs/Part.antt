@@ -13,24 +13,24 @@ module _ (words : List ℕ) (m : ℕ) (room : (m + 1) * row_words ≤ length wor
   pub more_rows : m < length (hand words)
   more_rows = omega (arith, long words)
 
-  pub part-words : length (take (m * row_words) words) ≡ m * row_words
-  part-words = length-take-le (m * row_words) words (omega arith)
+  pub part_words : length (take (m * row_words) words) ≡ m * row_words
+  part_words = length-take-le (m * row_words) words (omega arith)
 
-  pub part-is : hand (take (m * row_words) words) ≡ take m (hand words)
-  part-is = take-hand m words (omega (arith, more_rows))
+  pub part_is : hand (take (m * row_words) words) ≡ take m (hand words)
+  part_is = take-hand m words (omega (arith, more_rows))
 
-  pub part-long : length (hand (take (m * row_words) words)) ≡ m
-  part-long = length-hand m (take (m * row_words) words) part-words
+  pub part_long : length (hand (take (m * row_words) words)) ≡ m
+  part_long = length-hand m (take (m * row_words) words) part_words
 
   module _ (us : List ℕ) (lu : length us ≡ m * row_words) where
-    back-words : length (us ++ drop (m * row_words) words) ≡ length words
-    back-words = omega (arith, length-append us (drop (m * row_words) words), length-drop (m * row_words) words)
+    back_words : length (us ++ drop (m * row_words) words) ≡ length words
+    back_words = omega (arith, length-append us (drop (m * row_words) words), length-drop (m * row_words) words)
 
     pub back-room : (m + 1) * row_words ≤ length (us ++ drop (m * row_words) words)
-    back-room = omega (arith, back-words)
+    back-room = omega (arith, back_words)
 
     pub back_more : m < length (hand (us ++ drop (m * row_words) words))
-    back_more = omega (arith, long (us ++ drop (m * row_words) words), back-words)
+    back_more = omega (arith, long (us ++ drop (m * row_words) words), back_words)
 
     pub back_is : take m (hand (us ++ drop (m * row_words) words)) ≡ hand us
     back_is = sym (take-hand m (us ++ drop (m * row_words) words) (omega (arith, back_more))) ∙ ap hand (take_at us (drop (m * row_words) words) (m * row_words) lu)

@@ -25,7 +25,7 @@ use Rattle.moving.specs.declared.Moved as moving
 use Rattle.moving.specs.Move.{Advance}
 use Rattle.receiver.specs.declared.Step.{Step}
 use Rattle.receiver.specs.Step.{Laid, table_of, Stepped, Wrote, Advanced}
-use Rattle.receiver.proofs.Part.{more_rows, part-is, part-long, back_is, back_more}
+use Rattle.receiver.proofs.Part.{more_rows, part_is, part_long, back_is, back_more}
 
 -- a step
 abbrev pub step_of : Answer → Window → (rows : ℕ) → (changed : Bool) → Step
@@ -51,17 +51,17 @@ module _ (k len m : ℕ) (words : List ℕ) (fits : Bool) (would : (m ≤ most_r
 
 -- ---- m rows of some words were lent
 module _ (k len m : ℕ) (words : List ℕ) (room : (m + 1) * row_words ≤ length words) where
-  taken-part : (t : List Record) → Laid k len m words t → Taken t k (hand (take (m * row_words) words))
-  taken-part t l = subst (λ (hs : List Row). Taken t k hs) (sym (part-is words m room)) l.taken
+  taken_part : (t : List Record) → Laid k len m words t → Taken t k (hand (take (m * row_words) words))
+  taken_part t l = subst (λ (hs : List Row). Taken t k hs) (sym (part_is words m room)) l.taken
 
-  table-part : (t : List Record) → scatter (hand (take (m * row_words) words)) t ≡ table_of m words t
-  table-part t = ap (λ (hs : List Row). scatter hs t) (part-is words m room)
+  table_part : (t : List Record) → scatter (hand (take (m * row_words) words)) t ≡ table_of m words t
+  table_part t = ap (λ (hs : List Row). scatter hs t) (part_is words m room)
 
-  pub read-part : (call : Store → List ℕ → Written) (media timestamps lengths marks parity out out' : List ℕ) (answer : Answer) (w : Window)
+  pub read_part : (call : Store → List ℕ → Written) (media timestamps lengths marks parity out out' : List ℕ) (answer : Answer) (w : Window)
       → ((t : List Record) → length t ≡ len → Taken t k (hand (take (m * row_words) words)) → record { answer = answer; window = w; out = out' } ≡ call (stored media timestamps lengths marks parity (scatter (hand (take (m * row_words) words)) t)) out)
       → Wrote call k len m media timestamps lengths marks parity words out out' (step_of answer w m false)
-  read-part call media timestamps lengths marks parity out out' answer w h =
-      record { is = λ t l. h t l.sized (taken-part t l) ∙ ap (λ (u : List Record). call (stored media timestamps lengths marks parity u) out) (table-part t) }
+  read_part call media timestamps lengths marks parity out out' answer w h =
+      record { is = λ t l. h t l.sized (taken_part t l) ∙ ap (λ (u : List Record). call (stored media timestamps lengths marks parity u) out) (table_part t) }
 
   -- ---- an offer worked on them, and they are put back
   module _ (call : Store → Outcome) (media timestamps lengths marks parity : List ℕ) (r : Offered) (media' timestamps' lengths' marks' parity' us : List ℕ) (lu : length us ≡ m * row_words)
@@ -75,8 +75,8 @@ module _ (k len m : ℕ) (words : List ℕ) (room : (m + 1) * row_words ≤ leng
       slots-within : Within len (take m (hand words)) → Within len (hand us)
       slots-within w i l =
           let e = o.same-slots in
-          rw (same-slot (hand (take (m * row_words) words)) (hand us) e i, part-is words m room)
-          (w i (omega (arith, l, same_length (hand (take (m * row_words) words)) (hand us) e, ap (λ (hs : List Row). length hs) (part-is words m room))))
+          rw (same-slot (hand (take (m * row_words) words)) (hand us) e i, part_is words m room)
+          (w i (omega (arith, l, same_length (hand (take (m * row_words) words)) (hand us) e, ap (λ (hs : List Row). length hs) (part_is words m room))))
 
       left-within : Within len (take m (hand words)) → Within len (left r (hand us))
       left-within w = go r.held refl
@@ -92,9 +92,9 @@ module _ (k len m : ℕ) (words : List ℕ) (room : (m + 1) * row_words ≤ leng
       stepped = record {
         is = λ t l.
             ap (λ (u : List Record). record { answer = r.answer; window = r.window; store = stored media' timestamps' lengths' marks' parity' u }) (table-left t)
-            ∙ o.is t l.sized (taken-part t l)
-            ∙ ap (λ (u : List Record). call (stored media timestamps lengths marks parity u)) (table-part t);
-        still = λ t l c. table-left t ∙ o.still (same c) t ∙ table-part t;
+            ∙ o.is t l.sized (taken_part t l)
+            ∙ ap (λ (u : List Record). call (stored media timestamps lengths marks parity u)) (table_part t);
+        still = λ t l c. table-left t ∙ o.still (same c) t ∙ table_part t;
         few = λ t l. few;
         within = λ t l w. subst (Within len) (sym rows) (left-within w);
       }
@@ -104,9 +104,9 @@ module _ (k len m : ℕ) (words : List ℕ) (room : (m + 1) * row_words ≤ leng
     plain_step e = stepped m back (back_is words m room us lu ∙ ap (λ (b : Bool). cond b (hold_in 0 r.it (hand us)) (hand us)) (sym e)) (omega (arith, back_more words m room us lu)) r.changed (λ c. c)
 
     -- a record is held
-    pub held-step : r.held ≡ true → (n : ℕ) (words' : List ℕ) → take n (hand words') ≡ hold_in 0 r.it (take m (hand back)) → n ≤ length (hand words')
+    pub held_step : r.held ≡ true → (n : ℕ) (words' : List ℕ) → take n (hand words') ≡ hold_in 0 r.it (take m (hand back)) → n ≤ length (hand words')
         → Stepped call k len m media timestamps lengths marks parity words media' timestamps' lengths' marks' parity' words' (step_of r.answer r.window n true)
-    held-step e n words' h few =
+    held_step e n words' h few =
         stepped n words' (h ∙ ap (hold_in 0 r.it) (back_is words m room us lu) ∙ ap (λ (b : Bool). cond b (hold_in 0 r.it (hand us)) (hand us)) (sym e)) few true (λ c. absurd (let q : ◌≡◌ {A = ℕ} 0 1 = cc in omega arith))
 
   -- ---- a move worked on them, and they are put back
@@ -134,4 +134,4 @@ module _ (k len m : ℕ) (words : List ℕ) (room : (m + 1) * row_words ≤ leng
       says t e q = a.is t e (rw ek q)
 
       laid : (t : List Record) → Laid k len m words t → record { answer = r.answer; window = r.window; store = y t; out = out'; sizes = sizes' } ≡ moved w by (stored media timestamps lengths marks parity (table_of m words t)) out sizes
-      laid t l = says t l.sized (taken-part t l) ∙ ap (λ (u : List Record). moved w by (stored media timestamps lengths marks parity u) out sizes) (table-part t)
+      laid t l = says t l.sized (taken_part t l) ∙ ap (λ (u : List Record). moved w by (stored media timestamps lengths marks parity u) out sizes) (table_part t)

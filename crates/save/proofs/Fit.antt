@@ -11,12 +11,12 @@ use Rattle.capture.specs.Content.{most_entries}
 use Rattle.capture.specs.Calls.{good_port, short_body, total, entries_fit}
 
 module _ (ports lengths : List ℕ) (bodies : ℕ) where
-  pub fit-differ : (length ports ≡ length lengths → ⊥) → false ≡ entries_fit ports lengths bodies
-  fit-differ n = sym (rw (ne_eqb (length ports) (length lengths) n))
+  pub fit_differ : (length ports ≡ length lengths → ⊥) → false ≡ entries_fit ports lengths bodies
+  fit_differ n = sym (rw (ne_eqb (length ports) (length lengths) n))
 
   pub fit-many : length ports ≡ length lengths → most_entries < length ports → false ≡ entries_fit ports lengths bodies
   fit-many e h = sym (rw (eq-eqb (length ports) (length lengths) e, lt-leb (length ports) most_entries h))
 
-  pub fit-else : (p s : Bool) (t : ℕ) → length ports ≡ length lengths → length ports ≤ most_entries → p ≡ all good_port ports → s ≡ all short_body lengths → t ≡ total lengths
+  pub fit_else : (p s : Bool) (t : ℕ) → length ports ≡ length lengths → length ports ≤ most_entries → p ≡ all good_port ports → s ≡ all short_body lengths → t ≡ total lengths
       → (p && s && eqb t bodies) ≡ entries_fit ports lengths bodies
-  fit-else p s t e h ep es et = rw (ep, es, et) (sym (rw (eq-eqb (length ports) (length lengths) e, le-leb (length ports) most_entries h)))
+  fit_else p s t e h ep es et = rw (ep, es, et) (sym (rw (eq-eqb (length ports) (length lengths) e, le-leb (length ports) most_entries h)))

@@ -36,9 +36,9 @@ module _ (x : Parts) (out : List ℕ) where
   not-entries e = sym (rw e)
 
   module _ (e : entries_fit x.ports x.lengths (length x.bodies) ≡ true) where
-    pub not-numbers : numbers_fit x.l x.d x.p x.base x.n x.k ≡ false → no 21 out ≡ wrote x out
+    pub not_numbers : numbers_fit x.l x.d x.p x.base x.n x.k ≡ false → no 21 out ≡ wrote x out
     unfolding wrote first
-    not-numbers f = sym (rw (e, f))
+    not_numbers f = sym (rw (e, f))
 
     module _ (f : numbers_fit x.l x.d x.p x.base x.n x.k ≡ true) where
       size : length (file_of (content_of_parts x)) ≡ table_end (length x.ports) + length x.bodies
@@ -48,8 +48,8 @@ module _ (x : Parts) (out : List ℕ) where
       unfolding wrote first
       too_short h = sym (rw (e, f, size, lt-ltb (length out) (table_end (length x.ports) + length x.bodies) h))
 
-      laid-down : table_end (length x.ports) + length x.bodies ≤ length out → done x out ≡ file_of (content_of_parts x) ++ drop (length (file_of (content_of_parts x))) out
-      laid-down h =
+      laid_down : table_end (length x.ports) + length x.bodies ≤ length out → done x out ≡ file_of (content_of_parts x) ++ drop (length (file_of (content_of_parts x))) out
+      laid_down h =
           let g = fit x.ports x.lengths (length x.bodies) e in
           let hd = header (length x.ports) x.l x.d x.p x.base x.n x.k in
           let start = table_end (length x.ports) in
@@ -63,5 +63,5 @@ module _ (x : Parts) (out : List ℕ) where
           → ◌≡◌ {A = Filed} (record { written = record { number = 0; count = table_end (length x.ports) + length x.bodies }; out = after }) (wrote x out)
       unfolding wrote first
       was-written after h q =
-          rw (q ∙ laid-down h)
+          rw (q ∙ laid_down h)
           (sym (rw (e, f, size, le-ltb (length out) (table_end (length x.ports) + length x.bodies) h)))

@@ -99,9 +99,9 @@ module _ (L D : ℕ) (l : 0 < L) (d : 0 < D) where
 
   module _ (a : Arrangement) where
     -- a column goes out before its next cycle but one starts: two slots are enough for a column
-    pub due-soon : (c : Cycle) → c.column < L → due a L D c < start a L D c + 2 * (L * D)
+    pub due_soon : (c : Cycle) → c.column < L → due a L D c < start a L D c + 2 * (L * D)
     unfolding start
-    due-soon c h = omega (arith, due-is a c, phase-lt a c.column h)
+    due_soon c h = omega (arith, due-is a c, phase-lt a c.column h)
 
     -- every member comes before its column goes out
     pub member-before : (c : Cycle) (j : ℕ) → j < D → start a L D c + j * L < due a L D c
@@ -113,9 +113,9 @@ module _ (L D : ℕ) (l : 0 < L) (d : 0 < D) where
     turn-lt Staggered i = mod-lt i l
 
     -- what column_due gives is due with that packet
-    pub columnDue-due : (i : ℕ) (c : Cycle) → column_due a L D i ≡ some c → Due a L D i c
+    pub column_due-due : (i : ℕ) (c : Cycle) → column_due a L D i ≡ some c → Due a L D i c
     unfolding column_due leaving
-    columnDue-due i c = go (eqb (due a L D (leaving a L D i)) i) refl
+    column_due-due i c = go (eqb (due a L D (leaving a L D i)) i) refl
       where
         go : (b : Bool) → eqb (due a L D (leaving a L D i)) i ≡ b → cond b (some (leaving a L D i)) none ≡ some c → Due a L D i c
         go true e q =
@@ -132,9 +132,9 @@ module _ (L D : ℕ) (l : 0 < L) (d : 0 < D) where
         remainder L (c.column % D + (c.cycle + 1) * D) c.column i (omega (arith, due-is Staggered c)) h
 
     -- and it gives all that is due: with each packet one cycle at the most
-    pub due-columnDue : (i : ℕ) (c : Cycle) → Due a L D i c → column_due a L D i ≡ some c
+    pub due-column_due : (i : ℕ) (c : Cycle) → Due a L D i c → column_due a L D i ≡ some c
     unfolding column_due leaving
-    due-columnDue i c h =
+    due-column_due i c h =
         let q = quotient (L * D) (c.cycle + 1) (phase a L D c.column) i (sym h.at ∙ due-is a c) (phase-lt a c.column h.inside) in
         let f : leaving a L D i ≡ c = ap₂ cyc (turn-due a c i h.inside h.at) (omega arith) in
         rw (f, eq-eqb (due a L D c) i h.at)
@@ -174,9 +174,9 @@ module _ (L D : ℕ) (l : 0 < L) (d : 0 < D) where
         sym (taking-is (start a L D e) c m) ∙ taking-is (start a L D e) e n
 
     -- the row due ends with the packet
-    pub rowDue-last : (i s : ℕ) → row_due L i ≡ some s → (i / L * L ≡ s) × (s + L ≡ suc i)
+    pub row_due-last : (i s : ℕ) → row_due L i ≡ some s → (i / L * L ≡ s) × (s + L ≡ suc i)
     unfolding row_due
-    rowDue-last i s = go (leb 4 L) (eqb (i % L + 1) L) refl
+    row_due-last i s = go (leb 4 L) (eqb (i % L + 1) L) refl
       where
         go : (b c : Bool) → eqb (i % L + 1) L ≡ c → cond (b && c) (some (i / L * L)) none ≡ some s → (i / L * L ≡ s) × (s + L ≡ suc i)
         go true true e q = let f : i / L * L ≡ s = cc in (f, omega (arith, eqb-true (i % L + 1) L e, div-add-mod' i L))
@@ -184,9 +184,9 @@ module _ (L D : ℕ) (l : 0 < L) (d : 0 < D) where
         go false c e q = absurd (let z : ◌≡◌ {A = ℕ} 0 1 = cc in omega arith)
 
     -- the row with that last member is due, where L is at least 4
-    pub last-rowDue : (q : ℕ) → 4 ≤ L → row_due L (q * L + (L - 1)) ≡ some (q * L)
+    pub last-row_due : (q : ℕ) → 4 ≤ L → row_due L (q * L + (L - 1)) ≡ some (q * L)
     unfolding row_due
-    last-rowDue q h =
+    last-row_due q h =
         rw (
           remainder L q (L - 1) (q * L + (L - 1)) refl (omega arith),
           quotient L q (L - 1) (q * L + (L - 1)) refl (omega arith),
@@ -195,10 +195,10 @@ module _ (L D : ℕ) (l : 0 < L) (d : 0 < D) where
         )
 
     -- and no row where it is less
-    pub no-rowDue : (i : ℕ) → L < 4 → row_due L i ≡ none
+    pub no-row_due : (i : ℕ) → L < 4 → row_due L i ≡ none
     unfolding row_due
-    no-rowDue i h = rw (lt-leb 4 L h)
+    no-row_due i h = rw (lt-leb 4 L h)
 
     -- with a packet one cycle is due at the most
     pub due-one : (i : ℕ) (c e : Cycle) → Due a L D i c → Due a L D i e → c ≡ e
-    due-one i c e h k = let f = due-columnDue i c h in let g = due-columnDue i e k in cc
+    due-one i c e h k = let f = due-column_due i c h in let g = due-column_due i e k in cc

@@ -7,7 +7,7 @@ use Rattle.std.proofs.Math.Logic.{⊎_elim}
 use Rattle.std.proofs.Math.Nat.{mul-le-mul_left, mul-le-mul_right}
 use native.Mathlib.Omega.{arith}
 use Rattle.schedule.specs.Schedule.{Arrangement, Aligned, Staggered, Cycle, shift, start, due, slot, taking}
-use Rattle.schedule.specs.Exact.{cyc, lt-or-le, less_one, due-soon, member-before, taking-member, taking-early, quotient, remainder}
+use Rattle.schedule.specs.Exact.{cyc, lt-or-le, less_one, due_soon, member-before, taking-member, taking-early, quotient, remainder}
 use Rattle.schedule.specs.Place.{Place}
 use Rattle.schedule.specs.Numbers.{Small}
 
@@ -40,11 +40,11 @@ module _ (L D : ℕ) (l : 0 < L) (d : 0 < D) where
     after c e h k g =
         let f = ap (λ n. n + L * shift a D n) k in
         let n = mul-le-mul_right (L * D) g in
-        omega (arith, due-soon L D l d a c h)
+        omega (arith, due_soon L D l d a c h)
 
     -- two cycles that are alive with a packet have a slot each: never more than 2 * L are
-    pub alive-one : (i : ℕ) (c e : Cycle) → Alive a L D i c → Alive a L D i e → slot L c ≡ slot L e → c ≡ e
-    alive-one i c e u v s =
+    pub alive_one : (i : ℕ) (c e : Cycle) → Alive a L D i c → Alive a L D i e → slot L c ≡ slot L e → c ≡ e
+    alive_one i c e u v s =
         let p = slot-one c e u.inside v.inside s in
         ⊎_elim (λ g. absurd (omega (arith, after c e u.inside p.0 (odd c.cycle e.cycle p.1 g), u.kept, v.begun)))
         (λ g. ⊎_elim (λ t. ap₂ cyc p.0 (omega arith)) (λ t. absurd (omega (arith, after e c v.inside (omega (arith, p.0)) (odd e.cycle c.cycle (omega (arith, p.1)) t), v.kept, u.begun))) (eq-or-lt_of_le g))
@@ -61,7 +61,7 @@ module _ (L D : ℕ) (l : 0 < L) (d : 0 < D) where
         member : start a L D (taking a L D i) ≤ i → c ≡ taking a L D i
         member h =
             let m = taking-member L D l d a i h in
-            alive-one i c (taking a L D i) u (record { inside = m.inside; begun = h; kept = omega (arith, member-before L D l d a (taking a L D i) m.index m.small, m.is) }) s
+            alive_one i c (taking a L D i) u (record { inside = m.inside; begun = h; kept = omega (arith, member-before L D l d a (taking a L D i) m.index m.small, m.is) }) s
 
         early : i < start a L D (taking a L D i) → c ≡ taking a L D i
         early h =
@@ -81,7 +81,7 @@ module _ (L D : ℕ) (w : Small L D) where
 
   -- a column starts less than 200 packets before the one with which it goes out
   pub back-small : (a : Arrangement) (c : Cycle) → c.column < L → due a L D c - start a L D c < 200
-  back-small a c h = omega (arith, due-soon L D w.columns w.rows a c h, w.matrix)
+  back-small a c h = omega (arith, due_soon L D w.columns w.rows a c h, w.matrix)
 
 -- 004, 4.5.6: a column goes out L packets after its last member at the soonest, and L * D at the latest
 pub gap : (a : Arrangement) (L D : ℕ) → 0 < L → 0 < D → (c : Cycle) → c.column < L

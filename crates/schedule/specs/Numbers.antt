@@ -32,8 +32,8 @@ module _ (l d : ℕ) (s : Small l d) where
   pub line_small : (a : Arrangement) (k : ℕ) → l * shift a d k ≤ 400
   line_small a k = let h : shift a d k ≤ 20 = omega (arith, shift-lt l d s.columns s.rows a k, s.rows_most) in mul-le-mul s.columns_most h
 
-  pub cycles-small : (m : ℕ) → m ≤ 301 → m * (l * d) ≤ 30100
-  cycles-small m h = mul-le-mul h s.matrix
+  pub cycles_small : (m : ℕ) → m ≤ 301 → m * (l * d) ≤ 30100
+  cycles_small m h = mul-le-mul h s.matrix
 
   pub column-small : (k : ℕ) → k < l → k * d ≤ 400
   column-small k h = let g : k ≤ 20 = omega (arith, s.columns_most) in mul-le-mul g s.rows_most
@@ -46,7 +46,7 @@ module _ (l d : ℕ) (s : Small l d) where
 
   pub start_small : (a : Arrangement) (k m : ℕ) → k < l → m ≤ 300 → start a l d (cyc k m) ≤ 31000
   unfolding start
-  start_small a k m h n = omega (arith, line_small a k, cycles-small m (omega arith), s.columns_most)
+  start_small a k m h n = omega (arith, line_small a k, cycles_small m (omega arith), s.columns_most)
 
   pub turn_small : (a : Arrangement) (at k : ℕ) → k ≡ turn a l d at → k < l
   turn_small a at k e = rw e (turn-lt l d s.columns s.rows a a at)

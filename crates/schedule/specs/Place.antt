@@ -73,13 +73,13 @@ module _ (L D : ℕ) (l : 0 < L) (d : 0 < D) (p t : ℕ) where
         g : D * L ≤ p
         g = omega arith
 
-    pub columnDue-later : column_due a L D (p + t * (2 * (L * D))) ≡ map (later t) (column_due a L D p)
+    pub column_due-later : column_due a L D (p + t * (2 * (L * D))) ≡ map (later t) (column_due a L D p)
     unfolding column_due
-    columnDue-later = rw (leaving-later, due-later a (leaving a L D p), eqb-add) (cond_map (later t) (eqb (due a L D (leaving a L D p)) p) (leaving a L D p))
+    column_due-later = rw (leaving-later, due-later a (leaving a L D p), eqb-add) (cond_map (later t) (eqb (due a L D (leaving a L D p)) p) (leaving a L D p))
 
-  pub rowDue-later : row_due L (p + t * (2 * (L * D))) ≡ map (λ s. s + t * (2 * (L * D))) (row_due L p)
+  pub row_due-later : row_due L (p + t * (2 * (L * D))) ≡ map (λ s. s + t * (2 * (L * D))) (row_due L p)
   unfolding row_due
-  rowDue-later =
+  row_due-later =
       let e : (p / L + t * (2 * D)) * L ≡ p / L * L + t * (2 * (L * D)) = omega arith in
       rw (place-later, line-later, e) (cond_map (λ s. s + t * (2 * (L * D))) (leb 4 L && eqb (p % L + 1) L) (p / L * L))
 
@@ -124,10 +124,10 @@ module _ (L D : ℕ) (l : 0 < L) (d : 0 < D) where
     same_first : p < L * D → i ≡ p
     same_first h = let e = ap (λ t. t * (2 * (L * D))) (w.first h) in omega (arith, w.is)
 
-    pub columnDue-place : column_due a L D i ≡ map (later w.turns) (column_due a L D p)
-    columnDue-place = ⊎_elim
+    pub column_due-place : column_due a L D i ≡ map (later w.turns) (column_due a L D p)
+    column_due-place = ⊎_elim
         (λ h. rw (same_first h, w.first h) (later-zero _))
-        (λ h. rw w.is (columnDue-later L D l d p w.turns a h))
+        (λ h. rw w.is (column_due-later L D l d p w.turns a h))
         (lt-or-le p (L * D))
 
     pub taking-place : taking a L D i ≡ later w.turns (taking a L D p)
@@ -150,5 +150,5 @@ module _ (L D : ℕ) (l : 0 < L) (d : 0 < D) where
     pub line-place : i % L ≡ p % L
     line-place = rw w.is (place-later L D l d p w.turns)
 
-    pub rowDue-place : row_due L i ≡ map (λ s. s + w.turns * (2 * (L * D))) (row_due L p)
-    rowDue-place = rw w.is (rowDue-later L D l d p w.turns)
+    pub row_due-place : row_due L i ≡ map (λ s. s + w.turns * (2 * (L * D))) (row_due L p)
+    row_due-place = rw w.is (row_due-later L D l d p w.turns)

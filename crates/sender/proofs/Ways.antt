@@ -27,7 +27,7 @@ use Rattle.calls.specs.Call.{zeroed, over}
 use Rattle.schedule.specs.declared.Leaving.{Leaving}
 use Rattle.schedule.specs.declared.Joining.{Joining}
 use Rattle.schedule.specs.Schedule.{Cycle, column_due, row_due, row_slot}
-use Rattle.schedule.specs.Exact.{columnDue-due}
+use Rattle.schedule.specs.Exact.{column_due-due}
 use Rattle.schedule.specs.Limits.{slot_lt}
 use Rattle.schedule.specs.Numbers.{Small, leaving_by, leaving_at, joining_at}
 use Rattle.open.proofs.Ways.{front-zeros}
@@ -48,8 +48,8 @@ module _ (d : List ℕ) (at : ℕ) (g : List ℕ) (from size p : ℕ) (h : from 
   whole = take_all size (drop from g) (simp length-drop (omega arith))
 
   -- a payload laid over a slot
-  pub lay-payload : (z : List ℕ) → z ≡ paste d at (padded p (take size (drop from g))) p → z ≡ paste d at (padded p (drop from g)) p
-  lay-payload z e = e ∙ ap (λ (l : List ℕ). paste d at (padded p l) p) whole
+  pub lay_payload : (z : List ℕ) → z ≡ paste d at (padded p (take size (drop from g))) p → z ≡ paste d at (padded p (drop from g)) p
+  lay_payload z e = e ∙ ap (λ (l : List ℕ). paste d at (padded p l) p) whole
 
   -- a payload xored into a slot
   pub xor-payload : size ≤ p → at + p ≤ length d → (z : List ℕ) → z ≡ xor_at d at (drop from g) size → z ≡ paste d at (zip_xor (take p (drop at d)) (padded p (drop from g))) p
@@ -150,7 +150,7 @@ leaving-fits s r u c e = go (column_due (arrangement_of s) s.l s.d s.at) refl
     go none f = let z = e ∙ ap (leaving_by (arrangement_of s) s.l s.d s.at) f in rw z (omega (arith, w.columns), omega arith)
     go (some v) f =
         let z = e ∙ ap (leaving_by (arrangement_of s) s.l s.d s.at) f in
-        let h = columnDue-due s.l s.d w.columns w.rows (arrangement_of s) s.at v f in
+        let h = column_due-due s.l s.d w.columns w.rows (arrangement_of s) s.at v f in
         rw z (omega (arith, slot_lt s.l s.d w.columns w.rows v h.inside), omega (arith, u.at_low, w.matrix))
 
 -- the column that takes a packet in stands in the room

@@ -6,10 +6,10 @@ use Rattle.std.proofs.Math.Option.{some}
 use Rattle.std.proofs.lemmas.Bool.{eqb-false}
 use Rattle.schedule.specs.declared.Arrangement.{Arrangement}
 use Rattle.schedule.specs.Schedule.{Cycle, start, due, row_due, taking, slot, row_slot, onward}
-use Rattle.schedule.specs.Exact.{Due, Member, remainder, member-before, taking-member, taking-is, rowDue-last}
+use Rattle.schedule.specs.Exact.{Due, Member, remainder, member-before, taking-member, taking-is, row_due-last}
 use Rattle.schedule.specs.Place.{Place, onward-place, place-start, first-place, slot-place, line-place}
 use Rattle.schedule.specs.Limits.{slot_lt, taken-one}
-use Rattle.sent.specs.Sums.{over, seen, Laws, seen_all, seen-miss, seen_none, seen-hit}
+use Rattle.sent.specs.Sums.{over, seen, Laws, seen_all, seen-miss, seen_none, seen_hit}
 
 module _ {X : Type 0} (◌⊕◌ : X → X → X) (o : X) (G : X → Type 0) (laws : Laws ◌⊕◌ o G) (x : ℕ → X) (good : (j : ℕ) → G (x j)) (a : Arrangement) (L D : ℕ) where
   infixl 60 ◌⊕◌
@@ -27,8 +27,8 @@ module _ {X : Type 0} (◌⊕◌ : X → X → X) (o : X) (G : X → Type 0) (la
 
   add-next : (s t n j i : ℕ) (b : Bool) (old : X) → 0 < t → j < n → s + j * t ≡ i → (b ≡ true → s ≡ i) → (b ≡ false → old ≡ over ◌⊕◌ o (seen ◌⊕◌ o x i) s t n)
       → cond b (x i) (old ⊕ x i) ≡ over ◌⊕◌ o (seen ◌⊕◌ o x (suc i)) s t n
-  add-next s t n j i true old p k e f g = rw (seen-hit ◌⊕◌ o G laws x good i s t n j p k e, seen_none ◌⊕◌ o G laws x good i s t n (omega (arith, f refl))) (sym (laws.left (x i) (good i)))
-  add-next s t n j i false old p k e f g = rw (seen-hit ◌⊕◌ o G laws x good i s t n j p k e, g refl)
+  add-next s t n j i true old p k e f g = rw (seen_hit ◌⊕◌ o G laws x good i s t n j p k e, seen_none ◌⊕◌ o G laws x good i s t n (omega (arith, f refl))) (sym (laws.left (x i) (good i)))
+  add-next s t n j i false old p k e f g = rw (seen_hit ◌⊕◌ o G laws x good i s t n j p k e, g refl)
 
   module _ (l : 0 < L) (d : 0 < D) where
     -- before the first packet, whatever the slots hold
@@ -94,7 +94,7 @@ module _ {X : Type 0} (◌⊕◌ : X → X → X) (o : X) (G : X → Type 0) (la
         -- a row that goes out with the packet is whole
         pub row-whole : (b : ℕ) → row_due L i ≡ some b → slots' (row_slot L) ≡ over ◌⊕◌ o x b 1 L
         row-whole b e =
-            let f = rowDue-last L D l d a i b e in
+            let f = row_due-last L D l d a i b e in
             kept_next.row (i / L) (omega arith) (omega arith)
             ∙ rw f.0 (seen_all ◌⊕◌ o x (suc i) b 1 L (λ k u. omega arith))
 

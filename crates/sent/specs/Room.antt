@@ -7,7 +7,7 @@ use Rattle.std.proofs.lemmas.List.{length-replicate}
 use Rattle.xor.specs.Xor.{zip_xor, length-zip}
 use Rattle.xor.specs.Laws.{zip_comm, zip-zero}
 use Rattle.xor.specs.Padded.{length-padded}
-use Rattle.xor.specs.Parts.{part-front, part-rest}
+use Rattle.xor.specs.Parts.{part_front, part_rest}
 use Rattle.rtp.specs.Rtp.{rtp_header_size}
 use Rattle.calls.specs.Content.{Recovery}
 use Rattle.schedule.specs.Schedule.{start, taking, slot, row_slot}
@@ -58,7 +58,7 @@ module _ (p : ℕ) (r : Room) (s : ℕ) (v : Recovery) (q : Slot s p r) (h : Siz
   pub sum_same : sum_at p (put_sum p r s v) s ≡ v
   sum_same =
       rw (
-        part-front r.payloads s p v.content.payload q.payload-ends h,
+        part_front r.payloads s p v.content.payload q.payload-ends h,
         get_or-set_same r.timestamps s v.content.timestamp 0 q.timestamp-inside,
         get_or-set_same r.lengths s v.content.length 0 q.length-inside,
         get_or-set_same r.longest s v.size 0 q.longest-inside,
@@ -67,7 +67,7 @@ module _ (p : ℕ) (r : Room) (s : ℕ) (v : Recovery) (q : Slot s p r) (h : Siz
   pub sum-other : (t : ℕ) → ¬ (t ≡ s) → sum_at p (put_sum p r s v) t ≡ sum_at p r t
   sum-other t n =
       rw (
-        part-rest r.payloads s p v.content.payload q.payload-ends h t n,
+        part_rest r.payloads s p v.content.payload q.payload-ends h t n,
         get_or-set_other r.timestamps s t v.content.timestamp 0 n,
         get_or-set_other r.lengths s t v.content.length 0 n,
         get_or-set_other r.longest s t v.size 0 n,

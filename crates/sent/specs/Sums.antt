@@ -66,9 +66,9 @@ module _ {X : Type 0} (◌⊕◌ : X → X → X) (o : X) where
     seen_none s t (suc n) h = ap₂ ◌⊕◌ (seen_none s t n h) (seen_no x i (s + n * t) (omega arith)) ∙ laws.left o laws.nothing
 
     -- a member is added
-    pub seen-hit : (s t n j : ℕ) → 0 < t → j < n → s + j * t ≡ i → over (seen x (suc i)) s t n ≡ over (seen x i) s t n ⊕ x i
-    seen-hit s t zero j p l e = absurd (omega arith)
-    seen-hit s t (suc n) j p l e = ⊎_elim last (λ h. earlier h (seen-hit s t n j p h e)) (eq-or-lt_of_le (le_of_suc-le-suc l))
+    pub seen_hit : (s t n j : ℕ) → 0 < t → j < n → s + j * t ≡ i → over (seen x (suc i)) s t n ≡ over (seen x i) s t n ⊕ x i
+    seen_hit s t zero j p l e = absurd (omega arith)
+    seen_hit s t (suc n) j p l e = ⊎_elim last (λ h. earlier h (seen_hit s t n j p h e)) (eq-or-lt_of_le (le_of_suc-le-suc l))
       where
         last : j ≡ n → over (seen x (suc i)) s t n ⊕ seen x (suc i) (s + n * t) ≡ over (seen x i) s t n ⊕ seen x i (s + n * t) ⊕ x i
         last q =

@@ -24,8 +24,8 @@ use Rattle.calls.specs.Call.{Written, write_tests, wrote_parity, over as laidOve
 use Rattle.schedule.specs.declared.Arrangement.{Arrangement}
 use Rattle.schedule.specs.declared.Arrangement.TheVariants.{Aligned}
 use Rattle.schedule.specs.Schedule.{Cycle, start, due, column_due, row_due, slot, row_slot}
-use Rattle.schedule.specs.Exact.{member-before, columnDue-due, due-columnDue, rowDue-last, last-rowDue, no-rowDue}
-use Rattle.schedule.specs.Place.{Place, later, columnDue-place, rowDue-place, start-place, slot-later}
+use Rattle.schedule.specs.Exact.{member-before, column_due-due, due-column_due, row_due-last, last-row_due, no-row_due}
+use Rattle.schedule.specs.Place.{Place, later, column_due-place, row_due-place, start-place, slot-later}
 use Rattle.schedule.specs.Numbers.{Small}
 use Rattle.sender.specs.declared.Sender.{Sender}
 use Rattle.sender.specs.declared.Outer.{Outer}
@@ -57,9 +57,9 @@ set_up_of s = record { first = s.first; arrangement = s.arrangement; l = s.l; d 
 module _ (s : Sender) (o : Outer) (stream back place b : ℕ) (r : Room) (gs : List (List ℕ)) (out : List ℕ)
     (number : ahead width back (next_number s) ≡ number_at width s.first b)
     (sum : sum_at s.p r place ≡ over together (empty s.p) (packets s.p (datagram_at gs)) b (offset_of stream s.l) (na_of stream s.l s.d)) where
-  as-base : AsBase (set_up_of s) gs o stream b (packet s o stream back place r out).bytes out (packet s o stream back place r out).out
+  as_base : AsBase (set_up_of s) gs o stream b (packet s o stream back place r out).bytes out (packet s o stream back place r out).out
   unfolding wrote_parity
-  as-base = record { written = λ w t el ed ep h e. same w t el ed ep (written-sum w t stream (number_at width s.first b) b (datagram_at gs) h) e }
+  as_base = record { written = λ w t el ed ep h e. same w t el ed ep (written-sum w t stream (number_at width s.first b) b (datagram_at gs) h) e }
     where
       all : (p l d : ℕ) → Recovery
       all p l d = over together (empty p) (packets p (datagram_at gs)) b (offset_of stream l) (na_of stream l d)
@@ -106,7 +106,7 @@ module _ (s : Sender) (r : Room) (gs : List (List ℕ)) (v : Lives s r gs) (o : 
 
   row-sent : RowSent (set_up_of s) all o.row (row_out s o.row (absorbed s x r) o.row_out).bytes o.row_out (row_out s o.row (absorbed s x r) o.row_out).out (row_due s.l (length gs))
   unfolding row_out
-  row-sent = rw (rowDue-place s.l s.d w.columns w.rows (arrangement_of s) s.at (length gs) place) (go (row_due s.l s.at) refl)
+  row-sent = rw (row_due-place s.l s.d w.columns w.rows (arrangement_of s) s.at (length gs) place) (go (row_due s.l s.at) refl)
     where
       t : ℕ
       t = place.turns * (2 * (s.l * s.d))
@@ -115,15 +115,15 @@ module _ (s : Sender) (r : Room) (gs : List (List ℕ)) (v : Lives s r gs) (o : 
           → RowSent (set_up_of s) all o.row (row_by s o.row (absorbed s x r) o.row_out q).bytes o.row_out (row_by s o.row (absorbed s x r) o.row_out q).out (map (λ b. b + t) q)
       go none e = record { none_written = refl; same = refl }
       go (some b) e =
-          let f = rowDue-last s.l s.d w.columns w.rows (arrangement_of s) s.at b e in
-          let due : row_due s.l (length gs) ≡ some (b + t) = rowDue-place s.l s.d w.columns w.rows (arrangement_of s) s.at (length gs) place ∙ ap (map (λ b. b + t)) e in
-          as-base s o.row row (s.at - b) (row_slot s.l) (b + t) (absorbed s x r) all o.row_out
+          let f = row_due-last s.l s.d w.columns w.rows (arrangement_of s) s.at b e in
+          let due : row_due s.l (length gs) ≡ some (b + t) = row_due-place s.l s.d w.columns w.rows (arrangement_of s) s.at (length gs) place ∙ ap (map (λ b. b + t)) e in
+          as_base s o.row row (s.at - b) (row_slot s.l) (b + t) (absorbed s x r) all o.row_out
           (number (s.at - b) (b + t) (omega (arith, place.is)) (omega (arith, w.columns_most)))
           (row-whole together (empty s.p) (Sized s.p) (together-laws s.p) (packets s.p (datagram_at all)) (packets-sized s.p (datagram_at all)) (arrangement_of s) s.l s.d w.columns w.rows (length gs) s.at (sum_at s.p r) (v.kept (datagram_at all) goes) (sum_at s.p (absorbed s x r)) joins (b + t) due)
 
   column-sent : ColumnSent (set_up_of s) all o.column (column_out s o.column r o.column_out).bytes o.column_out (column_out s o.column r o.column_out).out (column_due (arrangement_of s) s.l s.d (length gs))
   unfolding column_out
-  column-sent = rw (columnDue-place s.l s.d w.columns w.rows (arrangement_of s) s.at (length gs) place) (go (column_due (arrangement_of s) s.l s.d s.at) refl)
+  column-sent = rw (column_due-place s.l s.d w.columns w.rows (arrangement_of s) s.at (length gs) place) (go (column_due (arrangement_of s) s.l s.d s.at) refl)
     where
       go : (q : Option Cycle) → column_due (arrangement_of s) s.l s.d s.at ≡ q
           → ColumnSent (set_up_of s) all o.column (column_by s o.column r o.column_out q).bytes o.column_out (column_by s o.column r o.column_out q).out (map (later place.turns) q)
@@ -132,12 +132,12 @@ module _ (s : Sender) (r : Room) (gs : List (List ℕ)) (v : Lives s r gs) (o : 
           let a = arrangement_of s in
           let b = start a s.l s.d c in
           let c' = later place.turns c in
-          let own = columnDue-due s.l s.d w.columns w.rows a s.at c e in
-          let now : column_due a s.l s.d (length gs) ≡ some c' = columnDue-place s.l s.d w.columns w.rows a s.at (length gs) place ∙ ap (map (later place.turns)) e in
-          let is = columnDue-due s.l s.d w.columns w.rows a (length gs) c' now in
+          let own = column_due-due s.l s.d w.columns w.rows a s.at c e in
+          let now : column_due a s.l s.d (length gs) ≡ some c' = column_due-place s.l s.d w.columns w.rows a s.at (length gs) place ∙ ap (map (later place.turns)) e in
+          let is = column_due-due s.l s.d w.columns w.rows a (length gs) c' now in
           let from = start-place s.l s.d w.columns w.rows a s.at (length gs) place c in
           let before = member-before s.l s.d w.columns w.rows a c 0 w.rows in
-          as-base s o.column column (s.at - b) (slot s.l c) (start a s.l s.d c') r all o.column_out
+          as_base s o.column column (s.at - b) (slot s.l c) (start a s.l s.d c') r all o.column_out
           (number (s.at - b) (start a s.l s.d c') (omega (arith, place.is, from, own.at, before)) (omega (arith, v.ready.at_low, w.matrix)))
           (ap (sum_at s.p r) (sym (slot-later s.l s.d w.columns w.rows place.turns c))
           ∙ column-whole together (empty s.p) (Sized s.p) (together-laws s.p) (packets s.p (datagram_at all)) (packets-sized s.p (datagram_at all)) a s.l s.d w.columns w.rows (length gs) s.at (sum_at s.p r) (v.kept (datagram_at all) goes) c' is)
@@ -155,20 +155,20 @@ module _ (s : Sender) (r : Room) (o : Offer) where
   given : Outcome
   given = offered s o.datagram o.row o.column r o.row_out o.column_out
 
-  when-taken : tests ≡ 0 → given ≡ took s o.datagram o.row o.column r o.row_out o.column_out
+  when_taken : tests ≡ 0 → given ≡ took s o.datagram o.row o.column r o.row_out o.column_out
   unfolding given tests offered
-  when-taken e = rw (eq-eqb (first (offer_tests s o.datagram r (length o.row_out) (length o.column_out))) 0 e)
+  when_taken e = rw (eq-eqb (first (offer_tests s o.datagram r (length o.row_out) (length o.column_out))) 0 e)
 
-  when-refused : (tests ≡ 0 → ⊥) → given ≡ refused tests s r o.row_out o.column_out
+  when_refused : (tests ≡ 0 → ⊥) → given ≡ refused tests s r o.row_out o.column_out
   unfolding given tests offered
-  when-refused h = rw (ne_eqb (first (offer_tests s o.datagram r (length o.row_out) (length o.column_out))) 0 h)
+  when_refused h = rw (ne_eqb (first (offer_tests s o.datagram r (length o.row_out) (length o.column_out))) 0 h)
 
   zero-taken : given.sent.number ≡ 0 → tests ≡ 0
   zero-taken e = go (eqb tests 0) refl
     where
       go : (b : Bool) → eqb tests 0 ≡ b → tests ≡ 0
       go true q = eqb-true tests 0 q
-      go false q = absurd (eqb-false tests 0 q (ap (λ (y : Outcome). y.sent.number) (sym (when-refused (eqb-false tests 0 q))) ∙ e))
+      go false q = absurd (eqb-false tests 0 q (ap (λ (y : Outcome). y.sent.number) (sym (when_refused (eqb-false tests 0 q))) ∙ e))
 
 -- a sender of these set_up numbers that has taken some datagrams
 record Goes (u : SetUp) (x : Life) : Type 0 where
@@ -185,12 +185,12 @@ goes-next u x o h = go (eqb (tests x.sender x.room o) 0) refl
     go : (b : Bool) → eqb t 0 ≡ b → Goes u (next x o)
     go true q =
         let e = eqb-true t 0 q in
-        let f = when-taken x.sender x.room o e in
+        let f = when_taken x.sender x.room o e in
         let k = offer-taken x.sender o.datagram x.room (length o.row_out) (length o.column_out) e in
         rw f (record { same = h.same; lives = lives-next x.sender x.room x.taken h.lives o.datagram k.payload })
     go false q =
         let n = eqb-false t 0 q in
-        let f = when-refused x.sender x.room o n in
+        let f = when_refused x.sender x.room o n in
         rw (f, q) (record { same = h.same; lives = h.lives })
 
 goes_after : (u : SetUp) (os : List Offer) (x : Life) → Goes u x → Goes u (after x os)
@@ -221,7 +221,7 @@ sends u r e os o z =
     let t = zero-taken x.sender x.room o z in
     let k = offer-taken x.sender o.datagram x.room (length o.row_out) (length o.column_out) t in
     let y = sends-taken x.sender x.room x.taken h.lives o k in
-    rw (when-taken x.sender x.room o t) (subst (λ (q : SetUp). Sends q (x.taken ++ (o.datagram ∷ [])) (length x.taken) o (took x.sender o.datagram o.row o.column x.room o.row_out o.column_out)) h.same y)
+    rw (when_taken x.sender x.room o t) (subst (λ (q : SetUp). Sends q (x.taken ++ (o.datagram ∷ [])) (length x.taken) o (took x.sender o.datagram o.row o.column x.room o.row_out o.column_out)) h.same y)
 
 -- and every packet is taken whose turn it is: with outputs of 28 + P bytes an offer meets no refusal but 6 to 9, and 13
 pub takes : (u : SetUp) (r : Room) → (opening u r).sent.number ≡ 0 → (os : List Offer) (o : Offer)
@@ -240,22 +240,22 @@ takes u r e os o hr hc =
 -- a column goes out with the packet with which it is due
 pub column-once : (a : Arrangement) (L D : ℕ) → 0 < L → 0 < D → (c : Cycle) → c.column < L → (i : ℕ)
     → (column_due a L D i ≡ some c → due a L D c ≡ i) × (due a L D c ≡ i → column_due a L D i ≡ some c)
-column-once a L D l d c h i = (λ e. (columnDue-due L D l d a i c e).at, λ e. due-columnDue L D l d a i c (record { inside = h; at = e }))
+column-once a L D l d c h i = (λ e. (column_due-due L D l d a i c e).at, λ e. due-column_due L D l d a i c (record { inside = h; at = e }))
 
 -- what goes out on the column stream is a column of the profile
 pub column-inside : (a : Arrangement) (L D : ℕ) → 0 < L → 0 < D → (c : Cycle) (i : ℕ) → column_due a L D i ≡ some c → c.column < L
-column-inside a L D l d c i e = (columnDue-due L D l d a i c e).inside
+column-inside a L D l d c i e = (column_due-due L D l d a i c e).inside
 
 -- a row goes out with its last member, where L is at least 4
 pub row-once : (L : ℕ) → 4 ≤ L → (q i : ℕ) → (row_due L i ≡ some (q * L) → q * L + (L - 1) ≡ i) × (q * L + (L - 1) ≡ i → row_due L i ≡ some (q * L))
 row-once L h q i = (
-  λ e. let f = rowDue-last L 1 (omega arith) (omega arith) Aligned i (q * L) e in omega arith,
-  λ e. rw (← e) (last-rowDue L 1 (omega arith) (omega arith) Aligned q h),
+  λ e. let f = row_due-last L 1 (omega arith) (omega arith) Aligned i (q * L) e in omega arith,
+  λ e. rw (← e) (last-row_due L 1 (omega arith) (omega arith) Aligned q h),
 )
 
 -- what goes out on the row stream is a row, and none does where L is below 4
 pub row_inside : (L : ℕ) → 0 < L → (b i : ℕ) → row_due L i ≡ some b → i / L * L ≡ b
-row_inside L l b i e = (rowDue-last L 1 l (omega arith) Aligned i b e).0
+row_inside L l b i e = (row_due-last L 1 l (omega arith) Aligned i b e).0
 
 pub row-never : (L : ℕ) → 0 < L → L < 4 → (i : ℕ) → row_due L i ≡ none
-row-never L l h i = no-rowDue L 1 l (omega arith) Aligned i h
+row-never L l h i = no-row_due L 1 l (omega arith) Aligned i h

@@ -22,25 +22,25 @@ module _ (at offset i : ℕ) where
   place j = i == at + j * offset
 
   -- nothing of the line is there
-  off-line : (n : ℕ) → ((j : ℕ) → j < n → i ≢ at + j * offset) → count (nat_eq i) (line at offset n) ≡ 0
-  off-line n h = count_map (nat_eq i) (λ j. at + j * offset) (up_to n) ∙ count_none place n (λ j l. ne_eqb i (at + j * offset) (h j l))
+  off_line : (n : ℕ) → ((j : ℕ) → j < n → i ≢ at + j * offset) → count (nat_eq i) (line at offset n) ≡ 0
+  off_line n h = count_map (nat_eq i) (λ j. at + j * offset) (up_to n) ∙ count_none place n (λ j l. ne_eqb i (at + j * offset) (h j l))
 
   -- places before place n lie before it
   before : (n : ℕ) → 1 ≤ offset → (j : ℕ) → j < n → at + j * offset < at + n * offset
   before n pos j l = let k = rw (suc-mul j offset) at (mul-le-mul_right offset l) in omega arith
 
-  left-of : (n : ℕ) → i < at → count (nat_eq i) (line at offset n) ≡ 0
-  left-of n h = off-line n (λ j l e. omega arith)
+  left_of : (n : ℕ) → i < at → count (nat_eq i) (line at offset n) ≡ 0
+  left_of n h = off_line n (λ j l e. omega arith)
 
   right_of : (n : ℕ) → 1 ≤ offset → at + n * offset ≤ i → count (nat_eq i) (line at offset n) ≡ 0
-  right_of n pos h = off-line n (λ j l e. let k = before n pos j l in omega arith)
+  right_of n pos h = off_line n (λ j l e. let k = before n pos j l in omega arith)
 
   -- before the first place, or past the last
   pub beside : (n : ℕ) → 1 ≤ offset → (nat_lt i at || nat_le (at + n * offset) i) ≡ true → count (nat_eq i) (line at offset n) ≡ 0
   beside n pos e = go (nat_lt i at) refl e
     where
       go : (t : Bool) → nat_lt i at ≡ t → (t || nat_le (at + n * offset) i) ≡ true → count (nat_eq i) (line at offset n) ≡ 0
-      go true h f = left-of n (ltb-true i at h)
+      go true h f = left_of n (ltb-true i at h)
       go false h f = right_of n pos (leb-true (at + n * offset) i f)
 
   between : (n : ℕ) → at + n * offset < i → i < at + suc n * offset → ((i - at) % offset == 0) ≡ false

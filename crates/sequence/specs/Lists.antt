@@ -126,13 +126,13 @@ module _ (test : ℕ → Bool) where
   any-map f [] = refl
   any-map f (i ∷ l) = rw (any-map f l)
 
-  count-map-one : (i j : ℕ) (t : Bool) (l m : List ℕ) → length l ≡ length m → length (cond t (i ∷ l) l) ≡ length (cond t (j ∷ m) m)
-  count-map-one i j true l m e = ap suc e
-  count-map-one i j false l m e = e
+  count_map-one : (i j : ℕ) (t : Bool) (l m : List ℕ) → length l ≡ length m → length (cond t (i ∷ l) l) ≡ length (cond t (j ∷ m) m)
+  count_map-one i j true l m e = ap suc e
+  count_map-one i j false l m e = e
 
   pub count_map : (f : ℕ → ℕ) (l : List ℕ) → count test (map f l) ≡ count (λ i. test (f i)) l
   count_map f [] = refl
-  count_map f (i ∷ l) = count-map-one (f i) i (test (f i)) (keep test (map f l)) (keep (λ i. test (f i)) l) (count_map f l)
+  count_map f (i ∷ l) = count_map-one (f i) i (test (f i)) (keep test (map f l)) (keep (λ i. test (f i)) l) (count_map f l)
 
   -- ---- laws: of each number below n
   pub all_true : (n : ℕ) → all test (up_to n) ≡ true → (i : ℕ) → i < n → test i ≡ true

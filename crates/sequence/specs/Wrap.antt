@@ -24,20 +24,20 @@ members w snbase offset na = map (member w snbase offset) (up_to na)
 -- ---- the wrap facts, once over the width
 module _ (w base : ℕ) (h : base ≤ 2 ^ w) where
   -- the position of the number at a position
-  pub ahead-numberAt : (i : ℕ) → i < 2 ^ w → ahead w base (number_at w base i) ≡ i
-  ahead-numberAt i l =
+  pub ahead-number_at : (i : ℕ) → i < 2 ^ w → ahead w base (number_at w base i) ≡ i
+  ahead-number_at i l =
       let e : base + i + (2 ^ w - base) ≡ i + 2 ^ w = omega arith in
       rw (mod-add-mod, e, add-mod_right) (mod-eq_of_lt l)
 
   -- the number at the position of a number
-  pub numberAt-ahead : (number : ℕ) → number < 2 ^ w → number_at w base (ahead w base number) ≡ number
-  numberAt-ahead number l =
+  pub number_at-ahead : (number : ℕ) → number < 2 ^ w → number_at w base (ahead w base number) ≡ number
+  number_at-ahead number l =
       let e : base + (number + (2 ^ w - base)) ≡ number + 2 ^ w = omega arith in
       rw (add-mod-mod, e, add-mod_right) (mod-eq_of_lt l)
 
   -- two numbers at one position are one number
-  pub ahead-injective : (a b : ℕ) → a < 2 ^ w → b < 2 ^ w → ahead w base a ≡ ahead w base b → a ≡ b
-  ahead-injective a b la lb e = sym (numberAt-ahead a la) ∙ ap (number_at w base) e ∙ numberAt-ahead b lb
+  pub ahead_injective : (a b : ℕ) → a < 2 ^ w → b < 2 ^ w → ahead w base a ≡ ahead w base b → a ≡ b
+  ahead_injective a b la lb e = sym (number_at-ahead a la) ∙ ap (number_at w base) e ∙ number_at-ahead b lb
 
   -- positions of a group go on from SNBase's in steps of Offset, with wrap
   pub ahead-member : (snbase offset j : ℕ) → ahead w base (member w snbase offset j) ≡ (ahead w base snbase + j * offset) % 2 ^ w
@@ -46,8 +46,8 @@ module _ (w base : ℕ) (h : base ≤ 2 ^ w) where
       rw (mod-add-mod, mod-add-mod, e)
 
   -- and without wrap as long as they stay below the width
-  pub ahead-plain : (snbase offset j : ℕ) → ahead w base snbase + j * offset < 2 ^ w → ahead w base (member w snbase offset j) ≡ ahead w base snbase + j * offset
-  ahead-plain snbase offset j l = ahead-member snbase offset j ∙ mod-eq_of_lt l
+  pub ahead_plain : (snbase offset j : ℕ) → ahead w base snbase + j * offset < 2 ^ w → ahead w base (member w snbase offset j) ≡ ahead w base snbase + j * offset
+  ahead_plain snbase offset j l = ahead-member snbase offset j ∙ mod-eq_of_lt l
 
 pub ahead-lt : (w base number : ℕ) → ahead w base number < 2 ^ w
 ahead-lt w base number = mod-lt _ (pow_pos w)
@@ -64,7 +64,7 @@ module _ (w base : ℕ) (h : base ≤ 2 ^ w) (snbase offset na : ℕ) where
   pub ahead-members : ((j : ℕ) → j < na → ahead w base snbase + j * offset < 2 ^ w) → map (ahead w base) (members w snbase offset na) ≡ map (λ j. ahead w base snbase + j * offset) (up_to na)
   ahead-members l =
       map-map (ahead w base) (member w snbase offset) (up_to na)
-      ∙ map_same (λ j. ahead w base (member w snbase offset j)) (λ j. ahead w base snbase + j * offset) na (λ j i. ahead-plain w base h snbase offset j (l j i))
+      ∙ map_same (λ j. ahead w base (member w snbase offset j)) (λ j. ahead w base snbase + j * offset) na (λ j i. ahead_plain w base h snbase offset j (l j i))
 
   -- it lies below n where the plain sum for its last member does
   pub below_last : (n : ℕ) → 0 < na → n + (na - 1) * offset ≤ 2 ^ w → all (λ i. ltb i n) (map (ahead w base) (members w snbase offset na)) ≡ nat_lt (ahead w base snbase + (na - 1) * offset) n
@@ -77,7 +77,7 @@ module _ (w base : ℕ) (h : base ≤ 2 ^ w) (snbase offset na : ℕ) where
       inside j = nat_lt (ahead w base (member w snbase offset j)) n
 
       at : (j : ℕ) → ahead w base snbase + j * offset < 2 ^ w → inside j ≡ nat_lt (ahead w base snbase + j * offset) n
-      at j l = ap (λ (i : ℕ). ltb i n) (ahead-plain w base h snbase offset j l)
+      at j l = ap (λ (i : ℕ). ltb i n) (ahead_plain w base h snbase offset j l)
 
       outside : (b : Bool) → nat_lt (ahead w base snbase) n ≡ b → n ≤ ahead w base snbase + (na - 1) * offset → all inside (up_to na) ≡ false
       outside true e f = not-all inside na (na - 1) (omega arith) (at (na - 1) (let q = ltb-true (ahead w base snbase) n e in omega arith) ∙ le-ltb (ahead w base snbase + (na - 1) * offset) n f)
@@ -94,8 +94,8 @@ module _ (w base : ℕ) (h : base ≤ 2 ^ w) (snbase offset na : ℕ) where
 
 module _ (w base : ℕ) where
   -- the number some positions after the number at a position
-  pub numberAt-onward : (i j : ℕ) → number_at w (number_at w base i) j ≡ number_at w base (i + j)
-  numberAt-onward i j = let e : base + i + j ≡ base + (i + j) = omega arith in rw (mod-add-mod, e)
+  pub number_at-onward : (i j : ℕ) → number_at w (number_at w base i) j ≡ number_at w base (i + j)
+  number_at-onward i j = let e : base + i + j ≡ base + (i + j) = omega arith in rw (mod-add-mod, e)
 
   -- a number that lies no less ahead of a base than the base moves on lies by so many less ahead of the new one
   pub ahead-onward : (by number : ℕ) → base ≤ 2 ^ w → by ≤ ahead w base number → ahead w base number ≡ by + ahead w (number_at w base by) number
@@ -106,7 +106,7 @@ module _ (w base : ℕ) where
       let small : new ≤ 2 ^ w = omega (arith, mod-lt (base + by) (pow_pos w)) in
       let e : base + (number + (2 ^ w - base)) ≡ number + 2 ^ w = omega arith in
       let f : by + (q - by) ≡ q = omega arith in
-      let there : number_at w new (q - by) ≡ number % 2 ^ w = numberAt-onward by (q - by) ∙ ap (number_at w base) f ∙ add-mod-mod base (number + (2 ^ w - base)) (2 ^ w) ∙ ap (λ k. k % 2 ^ w) e ∙ add-mod_right number (2 ^ w) in
+      let there : number_at w new (q - by) ≡ number % 2 ^ w = number_at-onward by (q - by) ∙ ap (number_at w base) f ∙ add-mod-mod base (number + (2 ^ w - base)) (2 ^ w) ∙ ap (λ k. k % 2 ^ w) e ∙ add-mod_right number (2 ^ w) in
       let back : ahead w new (number % 2 ^ w) ≡ ahead w new number = mod-add-mod number (2 ^ w) (2 ^ w - new) in
-      let g : q - by ≡ ahead w new number = sym (ahead-numberAt w new small (q - by) low) ∙ ap (ahead w new) there ∙ back in
+      let g : q - by ≡ ahead w new number = sym (ahead-number_at w new small (q - by) low) ∙ ap (ahead w new) there ∙ back in
       omega arith

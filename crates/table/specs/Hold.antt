@@ -255,8 +255,8 @@ module _ (m : ℕ) (hs : List Row) (l : m < length hs) (r : ℕ) (f : FirstFree 
       ∙ ap (λ (n : ℕ). take r (take m hs) ++ record { slot = n; note = note_at hs r; it = v } ∷ drop (suc r) (take m hs)) e ∙ ap (λ (x : Row). take r (take m hs) ++ record { slot = r; note = x.note; it = v } ∷ drop (suc r) (take m hs)) (sym eg) ∙ ap (λ (gs : List Row). take r (take m hs) ++ gs) (sym o) ∙ sym (f.stay v)
 
   -- the record is written into a new row
-  pub in-new-row : (hs₁ hs₂ : List Row) (w : ℕ) → w ≡ r → (r < m → slot_at hs r ≡ r → ⊥) → Shifted r m hs hs₁ → hs₂ ≡ set hs₁ r (record { slot = w; note = 0; it = v }) → take (m + 1) hs₂ ≡ hold_in 0 v (take m hs)
-  in-new-row hs₁ hs₂ w is n s e =
+  pub in_new_row : (hs₁ hs₂ : List Row) (w : ℕ) → w ≡ r → (r < m → slot_at hs r ≡ r → ⊥) → Shifted r m hs hs₁ → hs₂ ≡ set hs₁ r (record { slot = w; note = 0; it = v }) → take (m + 1) hs₂ ≡ hold_in 0 v (take m hs)
+  in_new_row hs₁ hs₂ w is n s e =
       let o : hold_in r v (drop r (take m hs)) ≡ record { slot = r; note = 0; it = v } ∷ drop r (take m hs) = new_row r v (drop r (take m hs)) (λ z q. n (omega (arith, lm, length-drop r (take m hs))) (sym (ap (λ (x : Row). x.slot) (at_row z)) ∙ q)) in
       rw (add-one m) (put-row m hs l r hs₁ hs₂ (record { slot = r; note = 0; it = v }) f.few s (e ∙ ap (λ (j : ℕ). set hs₁ r (record { slot = j; note = 0; it = v })) is) ∙ ap (λ (gs : List Row). take r (take m hs) ++ gs) (sym o) ∙ sym (f.stay v))
     where
@@ -264,8 +264,8 @@ module _ (m : ℕ) (hs : List Row) (l : m < length hs) (r : ℕ) (f : FirstFree 
       at_row z = let k : r + 0 ≡ r = omega arith in get_or-drop r (take m hs) 0 nobody ∙ ap (λ (j : ℕ). get_or (take m hs) j nobody) k ∙ get_or-take m hs r nobody (omega (arith, lm, length-drop r (take m hs)))
 
   -- the new row is one of the first m + 1
-  pub free-below : r < m + 1
-  free-below = omega (arith, f.few)
+  pub free_below_lem : r < m + 1
+  free_below_lem = omega (arith, f.few)
 
 -- so a record that is held in the hand is held in the first free record of the table
 pub held_in_table : {t : List Record} {k : ℕ} (hs : List Row) → Apart t k 0 hs → k ≤ length t → (v : Record) → scatter (hold_in 0 v hs) t ≡ set (scatter hs t) (first_free k (scatter hs t)) v

@@ -104,23 +104,23 @@ take-hand (suc m) (h ∷ a ∷ d ∷ e ∷ ws) l = rw on₀ (ap (λ (hs : List R
 
 -- a record whose fields have their widths comes back from its words
 pub fits : (v : Record) → v.stream < 256 → v.in_use < 256 → v.snbase < 65536 → v.length_recovery < 65536 → v.payload_length < 65536 → fit v ≡ v
-fits v a b c d e = rw (stream-of, mark_of, snbase-of, length-of, size_of)
+fits v a b c d e = rw (stream_of, mark_of, snbase_of, length_of, size_of)
   where
     -- the lowest 8 bits
-    stream-of : (v.stream + v.in_use * 256 + v.snbase * 65536) % 256 ≡ v.stream
-    stream-of = omega arith
+    stream_of : (v.stream + v.in_use * 256 + v.snbase * 65536) % 256 ≡ v.stream
+    stream_of = omega arith
 
     -- the next 8
     mark_of : (v.stream + v.in_use * 256 + v.snbase * 65536) / 256 % 256 ≡ v.in_use
     mark_of = omega arith
 
     -- the upper 16
-    snbase-of : (v.stream + v.in_use * 256 + v.snbase * 65536) / 65536 % 65536 ≡ v.snbase
-    snbase-of = omega arith
+    snbase_of : (v.stream + v.in_use * 256 + v.snbase * 65536) / 65536 % 65536 ≡ v.snbase
+    snbase_of = omega arith
 
     -- the lower 16 bits of the last word
-    length-of : (v.length_recovery + v.payload_length * 65536) % 65536 ≡ v.length_recovery
-    length-of = omega arith
+    length_of : (v.length_recovery + v.payload_length * 65536) % 65536 ≡ v.length_recovery
+    length_of = omega arith
 
     -- and the upper 16
     size_of : (v.length_recovery + v.payload_length * 65536) / 65536 % 65536 ≡ v.payload_length

@@ -109,9 +109,9 @@ module _ (w : Window) (s : Store) where
       (ap not (false-any (before w s r) r (λ q l. apart (is_in_use w s q) (same_group (record_at s q) (record_at s r)) (g.is_the_first q l)))))
       (le-leb least_missing (length (missing_at w s r)) g.waits_for))
 
-  pub order-in : InOrder w s → disorder w s ≡ false
+  pub order_in : InOrder w s → disorder w s ≡ false
   unfolding disorder
-  order-in o =
+  order_in o =
       ap not
       (both
       (both

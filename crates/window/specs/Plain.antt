@@ -3,7 +3,7 @@
 use Rattle.std.specs.Prelude.{◌≡◌, refl, Bool, true, false, cond, List, map, ℕ, ◌+◌, ◌*◌, ◌-◌, ◌^◌, ◌<◌, ◌≤◌, eqb, ltb}
 use Rattle.std.proofs.Common.{sym, ap, ◌∙◌, mul-le-mul, mul-le-mul_right, arith, ltb-true}
 use Rattle.sequence.specs.Lists.{up_to, count, count_map}
-use Rattle.sequence.specs.Wrap.{member, ahead-members, ahead-plain, below_last}
+use Rattle.sequence.specs.Wrap.{member, ahead-members, ahead_plain, below_last}
 use Rattle.sequence.specs.Line.{line, line-once}
 use Rattle.rtp.specs.Fec.{offset_of, na_of}
 use Rattle.window.specs.declared.Window.{Window}
@@ -61,15 +61,15 @@ module _ (w : Window) (based : w.base < 2 ^ width) (u : SetUp w) (stream snbase 
     short j h = omega (arith, i.below j h, u.n-high)
 
     -- and then its positions are the plain sums
-    pub member-plain : (j : ℕ) → j < na → position w (member width snbase offset j) ≡ place w stream snbase j
-    member-plain j h = ahead-plain width w.base (omega arith) snbase offset j (short j h)
+    pub member_plain : (j : ℕ) → j < na → position w (member width snbase offset j) ≡ place w stream snbase j
+    member_plain j h = ahead_plain width w.base (omega arith) snbase offset j (short j h)
 
     pub member_below : (j : ℕ) → j < na → position w (member width snbase offset j) < w.n
-    member_below j h = omega (arith, member-plain j h, i.below j h)
+    member_below j h = omega (arith, member_plain j h, i.below j h)
 
-    pub group-plain : group w stream snbase ≡ line (position w snbase) offset na
-    group-plain = ahead-members width w.base (omega arith) snbase offset na short
+    pub group_plain : group w stream snbase ≡ line (position w snbase) offset na
+    group_plain = ahead-members width w.base (omega arith) snbase offset na short
 
     -- no position stands in it twice
     pub group-once : (k : ℕ) → count (eqb k) (group w stream snbase) ≤ 1
-    group-once k = rw group-plain (line-once (position w snbase) offset k na (shape_of w.l w.d stream u.profile).step_low)
+    group-once k = rw group_plain (line-once (position w snbase) offset k na (shape_of w.l w.d stream u.profile).step_low)

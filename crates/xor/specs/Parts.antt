@@ -17,14 +17,14 @@ take-drop (suc at) m (x ∷ l) = rw suc-add (take-drop at m l)
 
 module _ (d : List ℕ) (i p : ℕ) (s : List ℕ) (hd : i * p + p ≤ length d) (hs : length s ≡ p) where
   -- after a part is written, it is what was written
-  pub part-front : take p (drop (i * p) (paste d (i * p) s p)) ≡ s
-  part-front =
+  pub part_front : take p (drop (i * p) (paste d (i * p) s p)) ≡ s
+  part_front =
       let all : take p s ≡ s = take_all p s (omega arith) in
       rw append_assoc (rw (drop_at (take (i * p) d) (take p s ++ drop (i * p + p) d) (i * p) (length-take-le (i * p) d (omega arith)), all) (take_at s (drop (i * p + p) d) p hs))
 
   -- and the other parts are as they were
-  pub part-rest : (j : ℕ) → j ≢ i → take p (drop (j * p) (paste d (i * p) s p)) ≡ take p (drop (j * p) d)
-  part-rest j other = go (dec_lt j i)
+  pub part_rest : (j : ℕ) → j ≢ i → take p (drop (j * p) (paste d (i * p) s p)) ≡ take p (drop (j * p) d)
+  part_rest j other = go (dec_lt j i)
     where
       go : Dec (j < i) → take p (drop (j * p) (paste d (i * p) s p)) ≡ take p (drop (j * p) d)
       go (yes h) =

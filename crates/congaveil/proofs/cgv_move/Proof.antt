@@ -72,7 +72,7 @@ use Rattle.face.proofs.advance.Met as work-thm
 use Rattle.table.proofs.scatter_back.Symbol as scatter-def
 use Rattle.table.proofs.scatter_back.Symbol.{name as #table·scatter-back}
 use Rattle.table.proofs.scatter_back.Met as scatter-thm
-use Rattle.congaveil.proofs.Lent.{Words, words_ty, value_of, Lie, lying, slice_of, was_all, room-all, Reach, All, Gather, Scatter, typed, apart, together, lends-words, words_back, reaches, all_made, lends, scatters, ends_with}
+use Rattle.congaveil.proofs.Lent.{Words, words_ty, value_of, Lie, lying, slice_of, was_all, room-all, Reach, All, Gather, Scatter, typed, apart, together, lends_words, words_back, reaches, all_made, lends, scatters, ends_with}
 use Rattle.congaveil.specs.contracts.cgv_move.Key.{name as #congaveil·cgv-move}
 use Rattle.congaveil.specs.contracts.cgv_move as f
 use Rattle.congaveil.proofs.cgv_move.Statement as stated
@@ -168,7 +168,7 @@ module _ {M : Type 1} {𝓤 : Ura M} (𝓛 : Logic 𝓤) (at_mem : Memory → SP
         assigns ! (of_opd ! (load ! (from ! (fld ! refl (stop !))) (look_in ! 84 (sub ! 1 refl (whole !))))) (from ! (stop !)) (store ! 71 refl (tt, record { fits = g₈.0 })) $
         assigns ! (addr ! (from ! (fld ! refl (hop ! (look_in ! 82 (sub ! 0 refl (whole !))) (stop !))))) (from ! (stop !)) (init ! 35 refl (tt, tt)) $ assigns ! (agg ! (and_then ! (load ! (from ! (stop !)) (look ! 35 refl)) (and_then ! (load ! (from ! (fld ! refl (stop !))) (look_in ! 82 (sub ! 1 refl (whole !)))) (no_more !)))) (from ! (stop !)) (init ! 33 refl (tt, (tt, (record { fits = g₉.0 }, tt)))) $
         assigns ! (addr ! (from ! (fld ! refl (hop ! (look_in ! 80 (sub ! 0 refl (whole !))) (stop !))))) (from ! (stop !)) (init ! 31 refl (tt, tt)) $ assigns ! (agg ! (and_then ! (load ! (from ! (stop !)) (look ! 31 refl)) (and_then ! (load ! (from ! (fld ! refl (stop !))) (look_in ! 80 (sub ! 1 refl (whole !)))) (no_more !)))) (from ! (stop !)) (init ! 29 refl (tt, (tt, (record { fits = g₁₀.0 }, tt)))) $
-        move ! (2 ∷ []) $ lends-words 𝓛 most_records (lit< tt, lit< tt) l₁₂ ws₃ n₃ tt (named 5) (λ ν δ. nothing ! $ move ! (13 ∷ 0 ∷ []) $ fjoin ! $ move ! (13 ∷ 0 ∷ []) $ fjoin ! $ owned ! usize (Is usize) (uint_Makes 𝓛 w64) (length x₈.now) (vint w64 (length x₈.now) ∷ []) (refl, g₈.0) $ fjoin ! $ owned ! usize (Is usize) (uint_Makes 𝓛 w64) m₃ (vint w64 m₃ ∷ []) (refl, gm₃) $ fjoin ! $ move ! (1 ∷ 0 ∷ []) $ fjoin ! $ move ! (12 ∷ 0 ∷ []) $ fjoin ! $ move ! (12 ∷ 0 ∷ []) $ fjoin ! $ move ! (12 ∷ 0 ∷ []) $ fjoin ! $ move ! (12 ∷ 0 ∷ []) $ fjoin ! $ move ! (12 ∷ 0 ∷ []) $ fjoin ! $ move ! (12 ∷ 0 ∷ []) $ fjoin ! $ move ! (12 ∷ 0 ∷ []) $ fjoin ! $ nothing ! $ move ! (6 ∷ 0 ∷ []) $ join ! $ move ! (6 ∷ 0 ∷ []) $ join ! $ move ! (2 ∷ 0 ∷ []) $ join ! $ move ! (5 ∷ 0 ∷ []) $ join ! $ move ! (5 ∷ 0 ∷ []) $ join ! $ move ! (5 ∷ 0 ∷ []) $ join ! $ move ! (5 ∷ 0 ∷ []) $ join ! $ move ! (5 ∷ 0 ∷ []) $ join ! $ join ! $ use1 𝓛 (raw ((Work 𝓛 at_mem run).pre (to-work l₁₂ ws₃ m₃ ν δ))) (goes-work l₁₂ ws₃ m₃ ν δ (room-all x₁.k m₃ ws₃ x₈.now (was_all x₁.k m₃ k ws₃ x₈.now e₀ h₃) n₃)) $
+        move ! (2 ∷ []) $ lends_words 𝓛 most_records (lit< tt, lit< tt) l₁₂ ws₃ n₃ tt (named 5) (λ ν δ. nothing ! $ move ! (13 ∷ 0 ∷ []) $ fjoin ! $ move ! (13 ∷ 0 ∷ []) $ fjoin ! $ owned ! usize (Is usize) (uint_Makes 𝓛 w64) (length x₈.now) (vint w64 (length x₈.now) ∷ []) (refl, g₈.0) $ fjoin ! $ owned ! usize (Is usize) (uint_Makes 𝓛 w64) m₃ (vint w64 m₃ ∷ []) (refl, gm₃) $ fjoin ! $ move ! (1 ∷ 0 ∷ []) $ fjoin ! $ move ! (12 ∷ 0 ∷ []) $ fjoin ! $ move ! (12 ∷ 0 ∷ []) $ fjoin ! $ move ! (12 ∷ 0 ∷ []) $ fjoin ! $ move ! (12 ∷ 0 ∷ []) $ fjoin ! $ move ! (12 ∷ 0 ∷ []) $ fjoin ! $ move ! (12 ∷ 0 ∷ []) $ fjoin ! $ move ! (12 ∷ 0 ∷ []) $ fjoin ! $ nothing ! $ move ! (6 ∷ 0 ∷ []) $ join ! $ move ! (6 ∷ 0 ∷ []) $ join ! $ move ! (2 ∷ 0 ∷ []) $ join ! $ move ! (5 ∷ 0 ∷ []) $ join ! $ move ! (5 ∷ 0 ∷ []) $ join ! $ move ! (5 ∷ 0 ∷ []) $ join ! $ move ! (5 ∷ 0 ∷ []) $ join ! $ move ! (5 ∷ 0 ∷ []) $ join ! $ join ! $ use1 𝓛 (raw ((Work 𝓛 at_mem run).pre (to-work l₁₂ ws₃ m₃ ν δ))) (goes-work l₁₂ ws₃ m₃ ν δ (room-all x₁.k m₃ ws₃ x₈.now (was_all x₁.k m₃ k ws₃ x₈.now e₀ h₃) n₃)) $
         calls_at ! fm (Work 𝓛 at_mem run) known-work (to-work l₁₂ ws₃ m₃ ν δ) (and_then ! (load ! (from ! (stop !)) (look ! 83 refl)) (and_then ! (load ! (from ! (stop !)) (look ! 81 refl)) (and_then ! (load ! (from ! (stop !)) (look ! 42 refl)) (and_then ! (load ! (from ! (stop !)) (look ! 38 refl)) (and_then ! (load ! (from ! (stop !)) (look ! 34 refl)) (and_then ! (load ! (from ! (stop !)) (look ! 30 refl)) (and_then ! (load ! (from ! (stop !)) (look ! 26 refl)) (and_then ! (load ! (from ! (stop !)) (look ! 22 refl)) (and_then ! (load ! (from ! (stop !)) (look ! 60 refl)) (and_then ! (load ! (from ! (stop !)) (look ! 56 refl)) (and_then ! (load ! (from ! (stop !)) (look ! 18 refl)) (and_then ! (load ! (from ! (stop !)) (look ! 14 refl)) (no_more !))))))))))))) (λ w'.
         use1 𝓛 (later (some (λ (r : Finished). ((‵ (flft κ₀ q₀) ⊛ (‵ (flft κ₁ q₁) ⊛ (‵ (flft κ₂ q₂) ⊛ (‵ (flft κ₃ q₃) ⊛ (‵ (flft κ₄ q₄) ⊛ (‵ (flft (ν ∷ []) full_share) ⊛ (‵ (flft κ₆ q₆) ⊛ (‵ (flft κ₇ q₇) ⊛ (‵ ftrue))))))))) ⊛ ‵ ((Finished.the_row).own_val r (w' ∷ []))) ⊛ raw (ensured 𝓛 work-f.ended (work-f.clauses 𝓛 at_mem run) (κ₀, (κ₁, (κ₂, (κ₃, (κ₄, (ν ∷ [], (κ₆, (κ₇, tt)))))))) (x₁, (x₂, (x₃, (x₄, (x₅, (x₆, (x₇, (lying l₁₂ ws₃ δ, (m₃, ((length x₈.now), (x₉, (x₁₀, tt)))))))))))) tt r)))) (id⊢ 𝓤 _) $ await ! tt $ pick ! (λ r.
         split ! $ move ! (1 ∷ []) $ use1 𝓛 (some (λ (zs : Unit {0} × (Unit {0} × (List ℕ × (List ℕ × (List ℕ × (List ℕ × (List ℕ × (List ℕ × (Unit {0} × (Unit {0} × (List ℕ × (List ℕ × (Unit {0}))))))))))))). ‵ (lasts work-f.ended (κ₀, (κ₁, (κ₂, (κ₃, (κ₄, (ν ∷ [], (κ₆, (κ₇, tt)))))))) (x₁, (x₂, (x₃, (x₄, (x₅, (x₆, (x₇, (lying l₁₂ ws₃ δ, (m₃, ((length x₈.now), (x₉, (x₁₀, tt)))))))))))) zs) ⊛ raw (fact 𝓤 (Carries (λ (s : Store). moved x₁ x₂ s x₉.now x₁₀.now) (length x₈.now) x₁.k m₃ x₃.now x₄.now x₅.now x₆.now x₇.now ws₃ zs.1.1.0 zs.1.1.1.0 zs.1.1.1.1.0 zs.1.1.1.1.1.0 zs.1.1.1.1.1.1.0 zs.1.1.1.1.1.1.1.0 zs.1.1.1.1.1.1.1.1.1.1.0 zs.1.1.1.1.1.1.1.1.1.1.1.0 r)))) (id⊢ 𝓤 _) $ pick ! (λ zs.

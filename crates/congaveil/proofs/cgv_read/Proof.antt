@@ -72,7 +72,7 @@ use Rattle.face.specs.contracts.read as work-f
 use Rattle.face.proofs.read.Symbol as work-def
 use Rattle.face.proofs.read.Symbol.{name as #face·read}
 use Rattle.face.proofs.read.Met as work-thm
-use Rattle.congaveil.proofs.Lent.{Words, words_ty, value_of, Lie, lying, slice_of, room, was_few, room-few, was_all, room-all, Reach, Enough, Few, All, Gather, typed, apart, together, lends-words, words_back, reaches, judged, few-made, all_made, passes}
+use Rattle.congaveil.proofs.Lent.{Words, words_ty, value_of, Lie, lying, slice_of, room, was_few, room-few, was_all, room-all, Reach, Enough, Few, All, Gather, typed, apart, together, lends_words, words_back, reaches, judged, few-made, all_made, passes}
 use Rattle.congaveil.specs.contracts.cgv_read.Key.{name as #congaveil·cgv-read}
 use Rattle.congaveil.specs.contracts.cgv_read as f
 use Rattle.congaveil.proofs.cgv_read.Statement as stated
@@ -163,7 +163,7 @@ module _ {M : Type 1} {𝓤 : Ura M} (𝓛 : Logic 𝓤) (at_mem : Memory → SP
         assigns ! (addr ! (from ! (fld ! refl (hop ! (look_in ! 47 (sub ! 0 refl (whole !))) (stop !))))) (from ! (stop !)) (init ! 23 refl (tt, tt)) $ assigns ! (agg ! (and_then ! (load ! (from ! (stop !)) (look ! 23 refl)) (and_then ! (load ! (from ! (fld ! refl (stop !))) (look_in ! 47 (sub ! 1 refl (whole !)))) (no_more !)))) (from ! (stop !)) (init ! 21 refl (tt, (tt, (record { fits = (room few_records (lit< tt, lit< tt) ws₁ n₁).0 }, tt)))) $
         assigns ! (of_opd ! (load ! (from ! (fld ! refl (stop !))) (look_in ! 56 (sub ! 1 refl (whole !))))) (from ! (stop !)) (store ! 43 refl (tt, record { fits = g₈.0 })) $
         assigns ! (addr ! (from ! (fld ! refl (hop ! (look_in ! 54 (sub ! 0 refl (whole !))) (stop !))))) (from ! (stop !)) (init ! 19 refl (tt, tt)) $ assigns ! (agg ! (and_then ! (load ! (from ! (stop !)) (look ! 19 refl)) (and_then ! (load ! (from ! (fld ! refl (stop !))) (look_in ! 54 (sub ! 1 refl (whole !)))) (no_more !)))) (from ! (stop !)) (init ! 17 refl (tt, (tt, (record { fits = g₉.0 }, tt)))) $
-        move ! (14 ∷ []) $ use1 𝓛 (‵ ((ShrSlice (named 0) κ₀ u8).own_val x₃ (v₃ ∷ [])) ⊛ ‵ ((ShrSlice (named 0) κ₀ u8).own_val x₃ (v₃ ∷ []))) ((shr_slice_copy 𝓛 (named 0) κ₀ u8).twice x₃ (v₃ ∷ [])) $ split ! $ move ! (15 ∷ []) $ use1 𝓛 (‵ ((ShrSlice (named 1) κ₁ u32).own_val x₄ (v₄ ∷ [])) ⊛ ‵ ((ShrSlice (named 1) κ₁ u32).own_val x₄ (v₄ ∷ []))) ((shr_slice_copy 𝓛 (named 1) κ₁ u32).twice x₄ (v₄ ∷ [])) $ split ! $ move ! (16 ∷ []) $ use1 𝓛 (‵ ((ShrSlice (named 2) κ₂ u16).own_val x₅ (v₅ ∷ [])) ⊛ ‵ ((ShrSlice (named 2) κ₂ u16).own_val x₅ (v₅ ∷ []))) ((shr_slice_copy 𝓛 (named 2) κ₂ u16).twice x₅ (v₅ ∷ [])) $ split ! $ move ! (17 ∷ []) $ use1 𝓛 (‵ ((ShrSlice (named 3) κ₃ u8).own_val x₆ (v₆ ∷ [])) ⊛ ‵ ((ShrSlice (named 3) κ₃ u8).own_val x₆ (v₆ ∷ []))) ((shr_slice_copy 𝓛 (named 3) κ₃ u8).twice x₆ (v₆ ∷ [])) $ split ! $ move ! (18 ∷ []) $ use1 𝓛 (‵ ((ShrSlice (named 4) κ₄ u8).own_val x₇ (v₇ ∷ [])) ⊛ ‵ ((ShrSlice (named 4) κ₄ u8).own_val x₇ (v₇ ∷ []))) ((shr_slice_copy 𝓛 (named 4) κ₄ u8).twice x₇ (v₇ ∷ [])) $ split ! $ move ! (11 ∷ []) $ lends-words 𝓛 few_records (lit< tt, lit< tt) l₁₁ ws₁ n₁ tt (named 5) (λ ν δ. nothing ! $ move ! (22 ∷ 0 ∷ []) $ fjoin ! $ owned ! usize (Is usize) (uint_Makes 𝓛 w64) (length x₈.now) (vint w64 (length x₈.now) ∷ []) (refl, g₈.0) $ fjoin ! $ owned ! usize (Is usize) (uint_Makes 𝓛 w64) m₁ (vint w64 m₁ ∷ []) (refl, gm₁) $ fjoin ! $ move ! (1 ∷ 0 ∷ []) $ fjoin ! $ move ! (4 ∷ 0 ∷ []) $ fjoin ! $ move ! (5 ∷ 0 ∷ []) $ fjoin ! $ move ! (6 ∷ 0 ∷ []) $ fjoin ! $ move ! (7 ∷ 0 ∷ []) $ fjoin ! $ move ! (8 ∷ 0 ∷ []) $ fjoin ! $ move ! (16 ∷ 0 ∷ []) $ fjoin ! $ move ! (16 ∷ 0 ∷ []) $ fjoin ! $ nothing ! $ move ! (11 ∷ 0 ∷ []) $ join ! $ move ! (2 ∷ 0 ∷ []) $ join ! $ move ! (10 ∷ 0 ∷ []) $ join ! $ move ! (10 ∷ 0 ∷ []) $ join ! $ move ! (10 ∷ 0 ∷ []) $ join ! $ move ! (10 ∷ 0 ∷ []) $ join ! $ move ! (10 ∷ 0 ∷ []) $ join ! $ join ! $ use1 𝓛 (raw ((Work 𝓛 at_mem run).pre (to-work l₁₁ ws₁ m₁ ν δ))) (goes-work l₁₁ ws₁ m₁ ν δ (room-few m₁ ws₁ n₁ small)) $
+        move ! (14 ∷ []) $ use1 𝓛 (‵ ((ShrSlice (named 0) κ₀ u8).own_val x₃ (v₃ ∷ [])) ⊛ ‵ ((ShrSlice (named 0) κ₀ u8).own_val x₃ (v₃ ∷ []))) ((shr_slice_copy 𝓛 (named 0) κ₀ u8).twice x₃ (v₃ ∷ [])) $ split ! $ move ! (15 ∷ []) $ use1 𝓛 (‵ ((ShrSlice (named 1) κ₁ u32).own_val x₄ (v₄ ∷ [])) ⊛ ‵ ((ShrSlice (named 1) κ₁ u32).own_val x₄ (v₄ ∷ []))) ((shr_slice_copy 𝓛 (named 1) κ₁ u32).twice x₄ (v₄ ∷ [])) $ split ! $ move ! (16 ∷ []) $ use1 𝓛 (‵ ((ShrSlice (named 2) κ₂ u16).own_val x₅ (v₅ ∷ [])) ⊛ ‵ ((ShrSlice (named 2) κ₂ u16).own_val x₅ (v₅ ∷ []))) ((shr_slice_copy 𝓛 (named 2) κ₂ u16).twice x₅ (v₅ ∷ [])) $ split ! $ move ! (17 ∷ []) $ use1 𝓛 (‵ ((ShrSlice (named 3) κ₃ u8).own_val x₆ (v₆ ∷ [])) ⊛ ‵ ((ShrSlice (named 3) κ₃ u8).own_val x₆ (v₆ ∷ []))) ((shr_slice_copy 𝓛 (named 3) κ₃ u8).twice x₆ (v₆ ∷ [])) $ split ! $ move ! (18 ∷ []) $ use1 𝓛 (‵ ((ShrSlice (named 4) κ₄ u8).own_val x₇ (v₇ ∷ [])) ⊛ ‵ ((ShrSlice (named 4) κ₄ u8).own_val x₇ (v₇ ∷ []))) ((shr_slice_copy 𝓛 (named 4) κ₄ u8).twice x₇ (v₇ ∷ [])) $ split ! $ move ! (11 ∷ []) $ lends_words 𝓛 few_records (lit< tt, lit< tt) l₁₁ ws₁ n₁ tt (named 5) (λ ν δ. nothing ! $ move ! (22 ∷ 0 ∷ []) $ fjoin ! $ owned ! usize (Is usize) (uint_Makes 𝓛 w64) (length x₈.now) (vint w64 (length x₈.now) ∷ []) (refl, g₈.0) $ fjoin ! $ owned ! usize (Is usize) (uint_Makes 𝓛 w64) m₁ (vint w64 m₁ ∷ []) (refl, gm₁) $ fjoin ! $ move ! (1 ∷ 0 ∷ []) $ fjoin ! $ move ! (4 ∷ 0 ∷ []) $ fjoin ! $ move ! (5 ∷ 0 ∷ []) $ fjoin ! $ move ! (6 ∷ 0 ∷ []) $ fjoin ! $ move ! (7 ∷ 0 ∷ []) $ fjoin ! $ move ! (8 ∷ 0 ∷ []) $ fjoin ! $ move ! (16 ∷ 0 ∷ []) $ fjoin ! $ move ! (16 ∷ 0 ∷ []) $ fjoin ! $ nothing ! $ move ! (11 ∷ 0 ∷ []) $ join ! $ move ! (2 ∷ 0 ∷ []) $ join ! $ move ! (10 ∷ 0 ∷ []) $ join ! $ move ! (10 ∷ 0 ∷ []) $ join ! $ move ! (10 ∷ 0 ∷ []) $ join ! $ move ! (10 ∷ 0 ∷ []) $ join ! $ move ! (10 ∷ 0 ∷ []) $ join ! $ join ! $ use1 𝓛 (raw ((Work 𝓛 at_mem run).pre (to-work l₁₁ ws₁ m₁ ν δ))) (goes-work l₁₁ ws₁ m₁ ν δ (room-few m₁ ws₁ n₁ small)) $
         calls_at ! fm (Work 𝓛 at_mem run) known-work (to-work l₁₁ ws₁ m₁ ν δ) (and_then ! (load ! (from ! (stop !)) (look ! 62 refl)) (and_then ! (load ! (from ! (stop !)) (look ! 60 refl)) (and_then ! (load ! (from ! (stop !)) (look ! 58 refl)) (and_then ! (load ! (from ! (stop !)) (look ! 56 refl)) (and_then ! (load ! (from ! (stop !)) (look ! 54 refl)) (and_then ! (load ! (from ! (stop !)) (look ! 52 refl)) (and_then ! (load ! (from ! (stop !)) (look ! 50 refl)) (and_then ! (load ! (from ! (stop !)) (look ! 13 refl)) (and_then ! (load ! (from ! (stop !)) (look ! 37 refl)) (and_then ! (load ! (from ! (stop !)) (look ! 35 refl)) (and_then ! (load ! (from ! (stop !)) (look ! 9 refl)) (no_more !)))))))))))) (λ w'.
         use1 𝓛 (later (some (λ (r : Reply). ((‵ (flft κ₀ q₀) ⊛ (‵ (flft κ₁ q₁) ⊛ (‵ (flft κ₂ q₂) ⊛ (‵ (flft κ₃ q₃) ⊛ (‵ (flft κ₄ q₄) ⊛ (‵ (flft (ν ∷ []) full_share) ⊛ (‵ (flft κ₆ q₆) ⊛ (‵ ftrue)))))))) ⊛ ‵ ((Reply.the_row).own_val r (w' ∷ []))) ⊛ raw (ensured 𝓛 work-f.ended (work-f.clauses 𝓛 at_mem run) (κ₀, (κ₁, (κ₂, (κ₃, (κ₄, (ν ∷ [], (κ₆, tt))))))) (x₁, (x₂, (x₃, (x₄, (x₅, (x₆, (x₇, (lying l₁₁ ws₁ δ, (m₁, ((length x₈.now), (x₉, tt))))))))))) tt r)))) (id⊢ 𝓤 _) $ await ! tt $ pick ! (λ r.
         split ! $ move ! (1 ∷ []) $ use1 𝓛 (some (λ (zs : Unit {0} × (Unit {0} × (Unit {0} × (Unit {0} × (Unit {0} × (Unit {0} × (Unit {0} × (List ℕ × (Unit {0} × (Unit {0} × (List ℕ × (Unit {0})))))))))))). ‵ (lasts work-f.ended (κ₀, (κ₁, (κ₂, (κ₃, (κ₄, (ν ∷ [], (κ₆, tt))))))) (x₁, (x₂, (x₃, (x₄, (x₅, (x₆, (x₇, (lying l₁₁ ws₁ δ, (m₁, ((length x₈.now), (x₉, tt))))))))))) zs) ⊛ raw (fact 𝓤 (Gives (λ (s : Store) (o : List ℕ). filled (read_out x₁ x₂ s o)) (length x₈.now) x₁.k m₁ x₃.now x₄.now x₅.now x₆.now x₇.now ws₁ x₉.now zs.1.1.1.1.1.1.1.1.1.1.0 r)))) (id⊢ 𝓤 _) $ pick ! (λ zs.
@@ -184,7 +184,7 @@ module _ {M : Type 1} {𝓤 : Ura M} (𝓛 : Logic 𝓤) (at_mem : Memory → SP
         assigns ! (addr ! (from ! (fld ! refl (hop ! (look_in ! 48 (sub ! 0 refl (whole !))) (stop !))))) (from ! (stop !)) (init ! 24 refl (tt, tt)) $ assigns ! (agg ! (and_then ! (load ! (from ! (stop !)) (look ! 24 refl)) (and_then ! (load ! (from ! (fld ! refl (stop !))) (look_in ! 48 (sub ! 1 refl (whole !)))) (no_more !)))) (from ! (stop !)) (init ! 22 refl (tt, (tt, (record { fits = (room most_records (lit< tt, lit< tt) ws₃ n₃).0 }, tt)))) $
         assigns ! (of_opd ! (load ! (from ! (fld ! refl (stop !))) (look_in ! 56 (sub ! 1 refl (whole !))))) (from ! (stop !)) (store ! 44 refl (tt, record { fits = g₈.0 })) $
         assigns ! (addr ! (from ! (fld ! refl (hop ! (look_in ! 54 (sub ! 0 refl (whole !))) (stop !))))) (from ! (stop !)) (init ! 20 refl (tt, tt)) $ assigns ! (agg ! (and_then ! (load ! (from ! (stop !)) (look ! 20 refl)) (and_then ! (load ! (from ! (fld ! refl (stop !))) (look_in ! 54 (sub ! 1 refl (whole !)))) (no_more !)))) (from ! (stop !)) (init ! 18 refl (tt, (tt, (record { fits = g₉.0 }, tt)))) $
-        move ! (15 ∷ []) $ use1 𝓛 (‵ ((ShrSlice (named 0) κ₀ u8).own_val x₃ (v₃ ∷ [])) ⊛ ‵ ((ShrSlice (named 0) κ₀ u8).own_val x₃ (v₃ ∷ []))) ((shr_slice_copy 𝓛 (named 0) κ₀ u8).twice x₃ (v₃ ∷ [])) $ split ! $ move ! (16 ∷ []) $ use1 𝓛 (‵ ((ShrSlice (named 1) κ₁ u32).own_val x₄ (v₄ ∷ [])) ⊛ ‵ ((ShrSlice (named 1) κ₁ u32).own_val x₄ (v₄ ∷ []))) ((shr_slice_copy 𝓛 (named 1) κ₁ u32).twice x₄ (v₄ ∷ [])) $ split ! $ move ! (17 ∷ []) $ use1 𝓛 (‵ ((ShrSlice (named 2) κ₂ u16).own_val x₅ (v₅ ∷ [])) ⊛ ‵ ((ShrSlice (named 2) κ₂ u16).own_val x₅ (v₅ ∷ []))) ((shr_slice_copy 𝓛 (named 2) κ₂ u16).twice x₅ (v₅ ∷ [])) $ split ! $ move ! (18 ∷ []) $ use1 𝓛 (‵ ((ShrSlice (named 3) κ₃ u8).own_val x₆ (v₆ ∷ [])) ⊛ ‵ ((ShrSlice (named 3) κ₃ u8).own_val x₆ (v₆ ∷ []))) ((shr_slice_copy 𝓛 (named 3) κ₃ u8).twice x₆ (v₆ ∷ [])) $ split ! $ move ! (19 ∷ []) $ use1 𝓛 (‵ ((ShrSlice (named 4) κ₄ u8).own_val x₇ (v₇ ∷ [])) ⊛ ‵ ((ShrSlice (named 4) κ₄ u8).own_val x₇ (v₇ ∷ []))) ((shr_slice_copy 𝓛 (named 4) κ₄ u8).twice x₇ (v₇ ∷ [])) $ split ! $ move ! (11 ∷ []) $ lends-words 𝓛 most_records (lit< tt, lit< tt) l₁₂ ws₃ n₃ tt (named 5) (λ ν δ. nothing ! $ move ! (23 ∷ 0 ∷ []) $ fjoin ! $ owned ! usize (Is usize) (uint_Makes 𝓛 w64) (length x₈.now) (vint w64 (length x₈.now) ∷ []) (refl, g₈.0) $ fjoin ! $ owned ! usize (Is usize) (uint_Makes 𝓛 w64) m₃ (vint w64 m₃ ∷ []) (refl, gm₃) $ fjoin ! $ move ! (1 ∷ 0 ∷ []) $ fjoin ! $ move ! (4 ∷ 0 ∷ []) $ fjoin ! $ move ! (5 ∷ 0 ∷ []) $ fjoin ! $ move ! (6 ∷ 0 ∷ []) $ fjoin ! $ move ! (7 ∷ 0 ∷ []) $ fjoin ! $ move ! (8 ∷ 0 ∷ []) $ fjoin ! $ move ! (17 ∷ 0 ∷ []) $ fjoin ! $ move ! (17 ∷ 0 ∷ []) $ fjoin ! $ nothing ! $ move ! (12 ∷ 0 ∷ []) $ join ! $ move ! (2 ∷ 0 ∷ []) $ join ! $ move ! (11 ∷ 0 ∷ []) $ join ! $ move ! (11 ∷ 0 ∷ []) $ join ! $ move ! (11 ∷ 0 ∷ []) $ join ! $ move ! (11 ∷ 0 ∷ []) $ join ! $ move ! (11 ∷ 0 ∷ []) $ join ! $ join ! $ use1 𝓛 (raw ((Work 𝓛 at_mem run).pre (to-work l₁₂ ws₃ m₃ ν δ))) (goes-work l₁₂ ws₃ m₃ ν δ (room-all x₁.k m₃ ws₃ x₈.now (was_all x₁.k m₃ k ws₃ x₈.now e₀ h₃) n₃)) $
+        move ! (15 ∷ []) $ use1 𝓛 (‵ ((ShrSlice (named 0) κ₀ u8).own_val x₃ (v₃ ∷ [])) ⊛ ‵ ((ShrSlice (named 0) κ₀ u8).own_val x₃ (v₃ ∷ []))) ((shr_slice_copy 𝓛 (named 0) κ₀ u8).twice x₃ (v₃ ∷ [])) $ split ! $ move ! (16 ∷ []) $ use1 𝓛 (‵ ((ShrSlice (named 1) κ₁ u32).own_val x₄ (v₄ ∷ [])) ⊛ ‵ ((ShrSlice (named 1) κ₁ u32).own_val x₄ (v₄ ∷ []))) ((shr_slice_copy 𝓛 (named 1) κ₁ u32).twice x₄ (v₄ ∷ [])) $ split ! $ move ! (17 ∷ []) $ use1 𝓛 (‵ ((ShrSlice (named 2) κ₂ u16).own_val x₅ (v₅ ∷ [])) ⊛ ‵ ((ShrSlice (named 2) κ₂ u16).own_val x₅ (v₅ ∷ []))) ((shr_slice_copy 𝓛 (named 2) κ₂ u16).twice x₅ (v₅ ∷ [])) $ split ! $ move ! (18 ∷ []) $ use1 𝓛 (‵ ((ShrSlice (named 3) κ₃ u8).own_val x₆ (v₆ ∷ [])) ⊛ ‵ ((ShrSlice (named 3) κ₃ u8).own_val x₆ (v₆ ∷ []))) ((shr_slice_copy 𝓛 (named 3) κ₃ u8).twice x₆ (v₆ ∷ [])) $ split ! $ move ! (19 ∷ []) $ use1 𝓛 (‵ ((ShrSlice (named 4) κ₄ u8).own_val x₇ (v₇ ∷ [])) ⊛ ‵ ((ShrSlice (named 4) κ₄ u8).own_val x₇ (v₇ ∷ []))) ((shr_slice_copy 𝓛 (named 4) κ₄ u8).twice x₇ (v₇ ∷ [])) $ split ! $ move ! (11 ∷ []) $ lends_words 𝓛 most_records (lit< tt, lit< tt) l₁₂ ws₃ n₃ tt (named 5) (λ ν δ. nothing ! $ move ! (23 ∷ 0 ∷ []) $ fjoin ! $ owned ! usize (Is usize) (uint_Makes 𝓛 w64) (length x₈.now) (vint w64 (length x₈.now) ∷ []) (refl, g₈.0) $ fjoin ! $ owned ! usize (Is usize) (uint_Makes 𝓛 w64) m₃ (vint w64 m₃ ∷ []) (refl, gm₃) $ fjoin ! $ move ! (1 ∷ 0 ∷ []) $ fjoin ! $ move ! (4 ∷ 0 ∷ []) $ fjoin ! $ move ! (5 ∷ 0 ∷ []) $ fjoin ! $ move ! (6 ∷ 0 ∷ []) $ fjoin ! $ move ! (7 ∷ 0 ∷ []) $ fjoin ! $ move ! (8 ∷ 0 ∷ []) $ fjoin ! $ move ! (17 ∷ 0 ∷ []) $ fjoin ! $ move ! (17 ∷ 0 ∷ []) $ fjoin ! $ nothing ! $ move ! (12 ∷ 0 ∷ []) $ join ! $ move ! (2 ∷ 0 ∷ []) $ join ! $ move ! (11 ∷ 0 ∷ []) $ join ! $ move ! (11 ∷ 0 ∷ []) $ join ! $ move ! (11 ∷ 0 ∷ []) $ join ! $ move ! (11 ∷ 0 ∷ []) $ join ! $ move ! (11 ∷ 0 ∷ []) $ join ! $ join ! $ use1 𝓛 (raw ((Work 𝓛 at_mem run).pre (to-work l₁₂ ws₃ m₃ ν δ))) (goes-work l₁₂ ws₃ m₃ ν δ (room-all x₁.k m₃ ws₃ x₈.now (was_all x₁.k m₃ k ws₃ x₈.now e₀ h₃) n₃)) $
         calls_at ! fm (Work 𝓛 at_mem run) known-work (to-work l₁₂ ws₃ m₃ ν δ) (and_then ! (load ! (from ! (stop !)) (look ! 62 refl)) (and_then ! (load ! (from ! (stop !)) (look ! 60 refl)) (and_then ! (load ! (from ! (stop !)) (look ! 58 refl)) (and_then ! (load ! (from ! (stop !)) (look ! 56 refl)) (and_then ! (load ! (from ! (stop !)) (look ! 54 refl)) (and_then ! (load ! (from ! (stop !)) (look ! 52 refl)) (and_then ! (load ! (from ! (stop !)) (look ! 50 refl)) (and_then ! (load ! (from ! (stop !)) (look ! 14 refl)) (and_then ! (load ! (from ! (stop !)) (look ! 38 refl)) (and_then ! (load ! (from ! (stop !)) (look ! 36 refl)) (and_then ! (load ! (from ! (stop !)) (look ! 10 refl)) (no_more !)))))))))))) (λ w'.
         use1 𝓛 (later (some (λ (r : Reply). ((‵ (flft κ₀ q₀) ⊛ (‵ (flft κ₁ q₁) ⊛ (‵ (flft κ₂ q₂) ⊛ (‵ (flft κ₃ q₃) ⊛ (‵ (flft κ₄ q₄) ⊛ (‵ (flft (ν ∷ []) full_share) ⊛ (‵ (flft κ₆ q₆) ⊛ (‵ ftrue)))))))) ⊛ ‵ ((Reply.the_row).own_val r (w' ∷ []))) ⊛ raw (ensured 𝓛 work-f.ended (work-f.clauses 𝓛 at_mem run) (κ₀, (κ₁, (κ₂, (κ₃, (κ₄, (ν ∷ [], (κ₆, tt))))))) (x₁, (x₂, (x₃, (x₄, (x₅, (x₆, (x₇, (lying l₁₂ ws₃ δ, (m₃, ((length x₈.now), (x₉, tt))))))))))) tt r)))) (id⊢ 𝓤 _) $ await ! tt $ pick ! (λ r.
         split ! $ move ! (1 ∷ []) $ use1 𝓛 (some (λ (zs : Unit {0} × (Unit {0} × (Unit {0} × (Unit {0} × (Unit {0} × (Unit {0} × (Unit {0} × (List ℕ × (Unit {0} × (Unit {0} × (List ℕ × (Unit {0})))))))))))). ‵ (lasts work-f.ended (κ₀, (κ₁, (κ₂, (κ₃, (κ₄, (ν ∷ [], (κ₆, tt))))))) (x₁, (x₂, (x₃, (x₄, (x₅, (x₆, (x₇, (lying l₁₂ ws₃ δ, (m₃, ((length x₈.now), (x₉, tt))))))))))) zs) ⊛ raw (fact 𝓤 (Gives (λ (s : Store) (o : List ℕ). filled (read_out x₁ x₂ s o)) (length x₈.now) x₁.k m₃ x₃.now x₄.now x₅.now x₆.now x₇.now ws₃ x₉.now zs.1.1.1.1.1.1.1.1.1.1.0 r)))) (id⊢ 𝓤 _) $ pick ! (λ zs.

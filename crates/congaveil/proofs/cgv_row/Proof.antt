@@ -79,7 +79,7 @@ use Rattle.face.proofs.row.Met as work-thm
 use Rattle.table.proofs.scatter_back.Symbol as scatter-def
 use Rattle.table.proofs.scatter_back.Symbol.{name as #table·scatter-back}
 use Rattle.table.proofs.scatter_back.Met as scatter-thm
-use Rattle.congaveil.proofs.Lent.{Words, words_ty, value_of, Lie, lying, slice_of, room, was_few, room-few, was_all, room-all, Reach, Enough, Few, All, Gather, Scatter, typed, apart, together, lends-words, words_back, reaches, judged, few-made, all_made, lends, scatters, ends_as}
+use Rattle.congaveil.proofs.Lent.{Words, words_ty, value_of, Lie, lying, slice_of, room, was_few, room-few, was_all, room-all, Reach, Enough, Few, All, Gather, Scatter, typed, apart, together, lends_words, words_back, reaches, judged, few-made, all_made, lends, scatters, ends_as}
 use Rattle.congaveil.specs.contracts.cgv_row.Key.{name as #congaveil·cgv-row}
 use Rattle.congaveil.specs.contracts.cgv_row as f
 use Rattle.congaveil.proofs.cgv_row.Statement as stated
@@ -172,7 +172,7 @@ module _ {M : Type 1} {𝓤 : Ura M} (𝓛 : Logic 𝓤) (at_mem : Memory → SP
         assigns ! (addr ! (from ! (fld ! refl (hop ! (look_in ! 91 (sub ! 0 refl (whole !))) (stop !))))) (from ! (stop !)) (init ! 32 refl (tt, tt)) $ assigns ! (agg ! (and_then ! (load ! (from ! (stop !)) (look ! 32 refl)) (and_then ! (load ! (from ! (fld ! refl (stop !))) (look_in ! 91 (sub ! 1 refl (whole !)))) (no_more !)))) (from ! (stop !)) (init ! 30 refl (tt, (tt, (record { fits = g₇.0 }, tt)))) $
         assigns ! (addr ! (from ! (fld ! refl (hop ! (look_in ! 82 (sub ! 0 refl (whole !))) (stop !))))) (from ! (stop !)) (init ! 28 refl (tt, tt)) $ assigns ! (agg ! (and_then ! (load ! (from ! (stop !)) (look ! 28 refl)) (and_then ! (load ! (from ! (fld ! refl (stop !))) (look_in ! 82 (sub ! 1 refl (whole !)))) (no_more !)))) (from ! (stop !)) (init ! 26 refl (tt, (tt, (record { fits = (room few_records (lit< tt, lit< tt) ws₁ n₁).0 }, tt)))) $
         assigns ! (of_opd ! (load ! (from ! (fld ! refl (stop !))) (look_in ! 89 (sub ! 1 refl (whole !))))) (from ! (stop !)) (store ! 76 refl (tt, record { fits = g₈.0 })) $
-        move ! (14 ∷ []) $ use1 𝓛 (‵ ((ShrSlice (named 0) κ₀ u8).own_val x₂ (v₂ ∷ [])) ⊛ ‵ ((ShrSlice (named 0) κ₀ u8).own_val x₂ (v₂ ∷ []))) ((shr_slice_copy 𝓛 (named 0) κ₀ u8).twice x₂ (v₂ ∷ [])) $ split ! $ move ! (4 ∷ []) $ lends-words 𝓛 few_records (lit< tt, lit< tt) l₁₀ ws₁ n₁ tt (named 6) (λ ν δ. nothing ! $ owned ! usize (Is usize) (uint_Makes 𝓛 w64) (length x₈.now) (vint w64 (length x₈.now) ∷ []) (refl, g₈.0) $ fjoin ! $ owned ! usize (Is usize) (uint_Makes 𝓛 w64) m₁ (vint w64 m₁ ∷ []) (refl, gm₁) $ fjoin ! $ move ! (1 ∷ 0 ∷ []) $ fjoin ! $ move ! (13 ∷ 0 ∷ []) $ fjoin ! $ move ! (13 ∷ 0 ∷ []) $ fjoin ! $ move ! (13 ∷ 0 ∷ []) $ fjoin ! $ move ! (13 ∷ 0 ∷ []) $ fjoin ! $ move ! (13 ∷ 0 ∷ []) $ fjoin ! $ move ! (4 ∷ 0 ∷ []) $ fjoin ! $ move ! (12 ∷ 0 ∷ []) $ fjoin ! $ nothing ! $ move ! (2 ∷ 0 ∷ []) $ join ! $ move ! (6 ∷ 0 ∷ []) $ join ! $ move ! (6 ∷ 0 ∷ []) $ join ! $ move ! (6 ∷ 0 ∷ []) $ join ! $ move ! (6 ∷ 0 ∷ []) $ join ! $ move ! (6 ∷ 0 ∷ []) $ join ! $ move ! (6 ∷ 0 ∷ []) $ join ! $ join ! $ use1 𝓛 (raw ((Work 𝓛 at_mem run).pre (to-work l₁₀ ws₁ m₁ ν δ))) (goes-work l₁₀ ws₁ m₁ ν δ (room-few m₁ ws₁ n₁ small)) $
+        move ! (14 ∷ []) $ use1 𝓛 (‵ ((ShrSlice (named 0) κ₀ u8).own_val x₂ (v₂ ∷ [])) ⊛ ‵ ((ShrSlice (named 0) κ₀ u8).own_val x₂ (v₂ ∷ []))) ((shr_slice_copy 𝓛 (named 0) κ₀ u8).twice x₂ (v₂ ∷ [])) $ split ! $ move ! (4 ∷ []) $ lends_words 𝓛 few_records (lit< tt, lit< tt) l₁₀ ws₁ n₁ tt (named 6) (λ ν δ. nothing ! $ owned ! usize (Is usize) (uint_Makes 𝓛 w64) (length x₈.now) (vint w64 (length x₈.now) ∷ []) (refl, g₈.0) $ fjoin ! $ owned ! usize (Is usize) (uint_Makes 𝓛 w64) m₁ (vint w64 m₁ ∷ []) (refl, gm₁) $ fjoin ! $ move ! (1 ∷ 0 ∷ []) $ fjoin ! $ move ! (13 ∷ 0 ∷ []) $ fjoin ! $ move ! (13 ∷ 0 ∷ []) $ fjoin ! $ move ! (13 ∷ 0 ∷ []) $ fjoin ! $ move ! (13 ∷ 0 ∷ []) $ fjoin ! $ move ! (13 ∷ 0 ∷ []) $ fjoin ! $ move ! (4 ∷ 0 ∷ []) $ fjoin ! $ move ! (12 ∷ 0 ∷ []) $ fjoin ! $ nothing ! $ move ! (2 ∷ 0 ∷ []) $ join ! $ move ! (6 ∷ 0 ∷ []) $ join ! $ move ! (6 ∷ 0 ∷ []) $ join ! $ move ! (6 ∷ 0 ∷ []) $ join ! $ move ! (6 ∷ 0 ∷ []) $ join ! $ move ! (6 ∷ 0 ∷ []) $ join ! $ move ! (6 ∷ 0 ∷ []) $ join ! $ join ! $ use1 𝓛 (raw ((Work 𝓛 at_mem run).pre (to-work l₁₀ ws₁ m₁ ν δ))) (goes-work l₁₀ ws₁ m₁ ν δ (room-few m₁ ws₁ n₁ small)) $
         calls_at ! fm (Work 𝓛 at_mem run) known-work (to-work l₁₀ ws₁ m₁ ν δ) (and_then ! (load ! (from ! (stop !)) (look ! 92 refl)) (and_then ! (load ! (from ! (stop !)) (look ! 90 refl)) (and_then ! (load ! (from ! (stop !)) (look ! 35 refl)) (and_then ! (load ! (from ! (stop !)) (look ! 31 refl)) (and_then ! (load ! (from ! (stop !)) (look ! 27 refl)) (and_then ! (load ! (from ! (stop !)) (look ! 23 refl)) (and_then ! (load ! (from ! (stop !)) (look ! 19 refl)) (and_then ! (load ! (from ! (stop !)) (look ! 15 refl)) (and_then ! (load ! (from ! (stop !)) (look ! 69 refl)) (and_then ! (load ! (from ! (stop !)) (look ! 65 refl)) (no_more !))))))))))) (λ w'.
         use1 𝓛 (later (some (λ (r : Finished). ((‵ (flft κ₀ q₀) ⊛ (‵ (flft κ₁ q₁) ⊛ (‵ (flft κ₂ q₂) ⊛ (‵ (flft κ₃ q₃) ⊛ (‵ (flft κ₄ q₄) ⊛ (‵ (flft κ₅ q₅) ⊛ (‵ (flft (ν ∷ []) full_share) ⊛ (‵ ftrue)))))))) ⊛ ‵ ((Finished.the_row).own_val r (w' ∷ []))) ⊛ raw (ensured 𝓛 work-f.ended (work-f.clauses 𝓛 at_mem run) (κ₀, (κ₁, (κ₂, (κ₃, (κ₄, (κ₅, (ν ∷ [], tt))))))) (x₁, (x₂, (x₃, (x₄, (x₅, (x₆, (x₇, (lying l₁₀ ws₁ δ, (m₁, ((length x₈.now), tt)))))))))) tt r)))) (id⊢ 𝓤 _) $ await ! tt $ pick ! (λ r.
         split ! $ move ! (1 ∷ []) $ use1 𝓛 (some (λ (zs : Unit {0} × (Unit {0} × (List ℕ × (List ℕ × (List ℕ × (List ℕ × (List ℕ × (List ℕ × (Unit {0} × (Unit {0} × (Unit {0}))))))))))). ‵ (lasts work-f.ended (κ₀, (κ₁, (κ₂, (κ₃, (κ₄, (κ₅, (ν ∷ [], tt))))))) (x₁, (x₂, (x₃, (x₄, (x₅, (x₆, (x₇, (lying l₁₀ ws₁ δ, (m₁, ((length x₈.now), tt)))))))))) zs) ⊛ raw (fact 𝓤 (Done (λ (s : Store). replied (offered_parity row x₁ x₂.now s)) (length x₈.now) x₁.k m₁ x₃.now x₄.now x₅.now x₆.now x₇.now ws₁ zs.1.1.0 zs.1.1.1.0 zs.1.1.1.1.0 zs.1.1.1.1.1.0 zs.1.1.1.1.1.1.0 zs.1.1.1.1.1.1.1.0 r)))) (id⊢ 𝓤 _) $ pick ! (λ zs.
@@ -207,7 +207,7 @@ module _ {M : Type 1} {𝓤 : Ura M} (𝓛 : Logic 𝓤) (at_mem : Memory → SP
         assigns ! (addr ! (from ! (fld ! refl (hop ! (look_in ! 91 (sub ! 0 refl (whole !))) (stop !))))) (from ! (stop !)) (init ! 33 refl (tt, tt)) $ assigns ! (agg ! (and_then ! (load ! (from ! (stop !)) (look ! 33 refl)) (and_then ! (load ! (from ! (fld ! refl (stop !))) (look_in ! 91 (sub ! 1 refl (whole !)))) (no_more !)))) (from ! (stop !)) (init ! 31 refl (tt, (tt, (record { fits = g₇.0 }, tt)))) $
         assigns ! (addr ! (from ! (fld ! refl (hop ! (look_in ! 83 (sub ! 0 refl (whole !))) (stop !))))) (from ! (stop !)) (init ! 29 refl (tt, tt)) $ assigns ! (agg ! (and_then ! (load ! (from ! (stop !)) (look ! 29 refl)) (and_then ! (load ! (from ! (fld ! refl (stop !))) (look_in ! 83 (sub ! 1 refl (whole !)))) (no_more !)))) (from ! (stop !)) (init ! 27 refl (tt, (tt, (record { fits = (room most_records (lit< tt, lit< tt) ws₃ n₃).0 }, tt)))) $
         assigns ! (of_opd ! (load ! (from ! (fld ! refl (stop !))) (look_in ! 89 (sub ! 1 refl (whole !))))) (from ! (stop !)) (store ! 77 refl (tt, record { fits = g₈.0 })) $
-        move ! (15 ∷ []) $ use1 𝓛 (‵ ((ShrSlice (named 0) κ₀ u8).own_val x₂ (v₂ ∷ [])) ⊛ ‵ ((ShrSlice (named 0) κ₀ u8).own_val x₂ (v₂ ∷ []))) ((shr_slice_copy 𝓛 (named 0) κ₀ u8).twice x₂ (v₂ ∷ [])) $ split ! $ move ! (4 ∷ []) $ lends-words 𝓛 most_records (lit< tt, lit< tt) l₁₁ ws₃ n₃ tt (named 6) (λ ν δ. nothing ! $ owned ! usize (Is usize) (uint_Makes 𝓛 w64) (length x₈.now) (vint w64 (length x₈.now) ∷ []) (refl, g₈.0) $ fjoin ! $ owned ! usize (Is usize) (uint_Makes 𝓛 w64) m₃ (vint w64 m₃ ∷ []) (refl, gm₃) $ fjoin ! $ move ! (1 ∷ 0 ∷ []) $ fjoin ! $ move ! (14 ∷ 0 ∷ []) $ fjoin ! $ move ! (14 ∷ 0 ∷ []) $ fjoin ! $ move ! (14 ∷ 0 ∷ []) $ fjoin ! $ move ! (14 ∷ 0 ∷ []) $ fjoin ! $ move ! (14 ∷ 0 ∷ []) $ fjoin ! $ move ! (4 ∷ 0 ∷ []) $ fjoin ! $ move ! (13 ∷ 0 ∷ []) $ fjoin ! $ nothing ! $ move ! (2 ∷ 0 ∷ []) $ join ! $ move ! (7 ∷ 0 ∷ []) $ join ! $ move ! (7 ∷ 0 ∷ []) $ join ! $ move ! (7 ∷ 0 ∷ []) $ join ! $ move ! (7 ∷ 0 ∷ []) $ join ! $ move ! (7 ∷ 0 ∷ []) $ join ! $ move ! (7 ∷ 0 ∷ []) $ join ! $ join ! $ use1 𝓛 (raw ((Work 𝓛 at_mem run).pre (to-work l₁₁ ws₃ m₃ ν δ))) (goes-work l₁₁ ws₃ m₃ ν δ (room-all x₁.k m₃ ws₃ x₈.now (was_all x₁.k m₃ k ws₃ x₈.now e₀ h₃) n₃)) $
+        move ! (15 ∷ []) $ use1 𝓛 (‵ ((ShrSlice (named 0) κ₀ u8).own_val x₂ (v₂ ∷ [])) ⊛ ‵ ((ShrSlice (named 0) κ₀ u8).own_val x₂ (v₂ ∷ []))) ((shr_slice_copy 𝓛 (named 0) κ₀ u8).twice x₂ (v₂ ∷ [])) $ split ! $ move ! (4 ∷ []) $ lends_words 𝓛 most_records (lit< tt, lit< tt) l₁₁ ws₃ n₃ tt (named 6) (λ ν δ. nothing ! $ owned ! usize (Is usize) (uint_Makes 𝓛 w64) (length x₈.now) (vint w64 (length x₈.now) ∷ []) (refl, g₈.0) $ fjoin ! $ owned ! usize (Is usize) (uint_Makes 𝓛 w64) m₃ (vint w64 m₃ ∷ []) (refl, gm₃) $ fjoin ! $ move ! (1 ∷ 0 ∷ []) $ fjoin ! $ move ! (14 ∷ 0 ∷ []) $ fjoin ! $ move ! (14 ∷ 0 ∷ []) $ fjoin ! $ move ! (14 ∷ 0 ∷ []) $ fjoin ! $ move ! (14 ∷ 0 ∷ []) $ fjoin ! $ move ! (14 ∷ 0 ∷ []) $ fjoin ! $ move ! (4 ∷ 0 ∷ []) $ fjoin ! $ move ! (13 ∷ 0 ∷ []) $ fjoin ! $ nothing ! $ move ! (2 ∷ 0 ∷ []) $ join ! $ move ! (7 ∷ 0 ∷ []) $ join ! $ move ! (7 ∷ 0 ∷ []) $ join ! $ move ! (7 ∷ 0 ∷ []) $ join ! $ move ! (7 ∷ 0 ∷ []) $ join ! $ move ! (7 ∷ 0 ∷ []) $ join ! $ move ! (7 ∷ 0 ∷ []) $ join ! $ join ! $ use1 𝓛 (raw ((Work 𝓛 at_mem run).pre (to-work l₁₁ ws₃ m₃ ν δ))) (goes-work l₁₁ ws₃ m₃ ν δ (room-all x₁.k m₃ ws₃ x₈.now (was_all x₁.k m₃ k ws₃ x₈.now e₀ h₃) n₃)) $
         calls_at ! fm (Work 𝓛 at_mem run) known-work (to-work l₁₁ ws₃ m₃ ν δ) (and_then ! (load ! (from ! (stop !)) (look ! 92 refl)) (and_then ! (load ! (from ! (stop !)) (look ! 90 refl)) (and_then ! (load ! (from ! (stop !)) (look ! 36 refl)) (and_then ! (load ! (from ! (stop !)) (look ! 32 refl)) (and_then ! (load ! (from ! (stop !)) (look ! 28 refl)) (and_then ! (load ! (from ! (stop !)) (look ! 24 refl)) (and_then ! (load ! (from ! (stop !)) (look ! 20 refl)) (and_then ! (load ! (from ! (stop !)) (look ! 16 refl)) (and_then ! (load ! (from ! (stop !)) (look ! 70 refl)) (and_then ! (load ! (from ! (stop !)) (look ! 66 refl)) (no_more !))))))))))) (λ w'.
         use1 𝓛 (later (some (λ (r : Finished). ((‵ (flft κ₀ q₀) ⊛ (‵ (flft κ₁ q₁) ⊛ (‵ (flft κ₂ q₂) ⊛ (‵ (flft κ₃ q₃) ⊛ (‵ (flft κ₄ q₄) ⊛ (‵ (flft κ₅ q₅) ⊛ (‵ (flft (ν ∷ []) full_share) ⊛ (‵ ftrue)))))))) ⊛ ‵ ((Finished.the_row).own_val r (w' ∷ []))) ⊛ raw (ensured 𝓛 work-f.ended (work-f.clauses 𝓛 at_mem run) (κ₀, (κ₁, (κ₂, (κ₃, (κ₄, (κ₅, (ν ∷ [], tt))))))) (x₁, (x₂, (x₃, (x₄, (x₅, (x₆, (x₇, (lying l₁₁ ws₃ δ, (m₃, ((length x₈.now), tt)))))))))) tt r)))) (id⊢ 𝓤 _) $ await ! tt $ pick ! (λ r.
         split ! $ move ! (1 ∷ []) $ use1 𝓛 (some (λ (zs : Unit {0} × (Unit {0} × (List ℕ × (List ℕ × (List ℕ × (List ℕ × (List ℕ × (List ℕ × (Unit {0} × (Unit {0} × (Unit {0}))))))))))). ‵ (lasts work-f.ended (κ₀, (κ₁, (κ₂, (κ₃, (κ₄, (κ₅, (ν ∷ [], tt))))))) (x₁, (x₂, (x₃, (x₄, (x₅, (x₆, (x₇, (lying l₁₁ ws₃ δ, (m₃, ((length x₈.now), tt)))))))))) zs) ⊛ raw (fact 𝓤 (Done (λ (s : Store). replied (offered_parity row x₁ x₂.now s)) (length x₈.now) x₁.k m₃ x₃.now x₄.now x₅.now x₆.now x₇.now ws₃ zs.1.1.0 zs.1.1.1.0 zs.1.1.1.1.0 zs.1.1.1.1.1.0 zs.1.1.1.1.1.1.0 zs.1.1.1.1.1.1.1.0 r)))) (id⊢ 𝓤 _) $ pick ! (λ zs.

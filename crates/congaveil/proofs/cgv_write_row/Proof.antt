@@ -73,7 +73,7 @@ use Rattle.face.specs.contracts.write_row as work-f
 use Rattle.face.proofs.write_row.Symbol as work-def
 use Rattle.face.proofs.write_row.Symbol.{name as #face·write-row}
 use Rattle.face.proofs.write_row.Met as work-thm
-use Rattle.congaveil.proofs.Lent.{Words, words_ty, value_of, Lie, lying, slice_of, room, was_few, room-few, was_all, room-all, Reach, Enough, Few, All, Gather, typed, apart, together, lends-words, words_back, reaches, judged, few-made, all_made, passes}
+use Rattle.congaveil.proofs.Lent.{Words, words_ty, value_of, Lie, lying, slice_of, room, was_few, room-few, was_all, room-all, Reach, Enough, Few, All, Gather, typed, apart, together, lends_words, words_back, reaches, judged, few-made, all_made, passes}
 use Rattle.congaveil.specs.contracts.cgv_write_row.Key.{name as #congaveil·cgv-write-row}
 use Rattle.congaveil.specs.contracts.cgv_write_row as f
 use Rattle.congaveil.proofs.cgv_write_row.Statement as stated
@@ -173,7 +173,7 @@ module _ {M : Type 1} {𝓤 : Ura M} (𝓛 : Logic 𝓤) (at_mem : Memory → SP
         assigns ! (addr ! (from ! (fld ! refl (hop ! (look_in ! 50 (sub ! 0 refl (whole !))) (stop !))))) (from ! (stop !)) (init ! 26 refl (tt, tt)) $ assigns ! (agg ! (and_then ! (load ! (from ! (stop !)) (look ! 26 refl)) (and_then ! (load ! (from ! (fld ! refl (stop !))) (look_in ! 50 (sub ! 1 refl (whole !)))) (no_more !)))) (from ! (stop !)) (init ! 24 refl (tt, (tt, (record { fits = (room few_records (lit< tt, lit< tt) ws₁ n₁).0 }, tt)))) $
         assigns ! (of_opd ! (load ! (from ! (fld ! refl (stop !))) (look_in ! 59 (sub ! 1 refl (whole !))))) (from ! (stop !)) (store ! 46 refl (tt, record { fits = g₁₁.0 })) $
         assigns ! (addr ! (from ! (fld ! refl (hop ! (look_in ! 57 (sub ! 0 refl (whole !))) (stop !))))) (from ! (stop !)) (init ! 22 refl (tt, tt)) $ assigns ! (agg ! (and_then ! (load ! (from ! (stop !)) (look ! 22 refl)) (and_then ! (load ! (from ! (fld ! refl (stop !))) (look_in ! 57 (sub ! 1 refl (whole !)))) (no_more !)))) (from ! (stop !)) (init ! 20 refl (tt, (tt, (record { fits = g₁₂.0 }, tt)))) $
-        move ! (14 ∷ []) $ use1 𝓛 (‵ ((ShrSlice (named 0) κ₀ u8).own_val x₆ (v₆ ∷ [])) ⊛ ‵ ((ShrSlice (named 0) κ₀ u8).own_val x₆ (v₆ ∷ []))) ((shr_slice_copy 𝓛 (named 0) κ₀ u8).twice x₆ (v₆ ∷ [])) $ split ! $ move ! (15 ∷ []) $ use1 𝓛 (‵ ((ShrSlice (named 1) κ₁ u32).own_val x₇ (v₇ ∷ [])) ⊛ ‵ ((ShrSlice (named 1) κ₁ u32).own_val x₇ (v₇ ∷ []))) ((shr_slice_copy 𝓛 (named 1) κ₁ u32).twice x₇ (v₇ ∷ [])) $ split ! $ move ! (16 ∷ []) $ use1 𝓛 (‵ ((ShrSlice (named 2) κ₂ u16).own_val x₈ (v₈ ∷ [])) ⊛ ‵ ((ShrSlice (named 2) κ₂ u16).own_val x₈ (v₈ ∷ []))) ((shr_slice_copy 𝓛 (named 2) κ₂ u16).twice x₈ (v₈ ∷ [])) $ split ! $ move ! (17 ∷ []) $ use1 𝓛 (‵ ((ShrSlice (named 3) κ₃ u8).own_val x₉ (v₉ ∷ [])) ⊛ ‵ ((ShrSlice (named 3) κ₃ u8).own_val x₉ (v₉ ∷ []))) ((shr_slice_copy 𝓛 (named 3) κ₃ u8).twice x₉ (v₉ ∷ [])) $ split ! $ move ! (18 ∷ []) $ use1 𝓛 (‵ ((ShrSlice (named 4) κ₄ u8).own_val x₁₀ (v₁₀ ∷ [])) ⊛ ‵ ((ShrSlice (named 4) κ₄ u8).own_val x₁₀ (v₁₀ ∷ []))) ((shr_slice_copy 𝓛 (named 4) κ₄ u8).twice x₁₀ (v₁₀ ∷ [])) $ split ! $ move ! (11 ∷ []) $ lends-words 𝓛 few_records (lit< tt, lit< tt) l₁₄ ws₁ n₁ tt (named 5) (λ ν δ. nothing ! $ move ! (22 ∷ 0 ∷ []) $ fjoin ! $ owned ! usize (Is usize) (uint_Makes 𝓛 w64) (length x₁₁.now) (vint w64 (length x₁₁.now) ∷ []) (refl, g₁₁.0) $ fjoin ! $ owned ! usize (Is usize) (uint_Makes 𝓛 w64) m₁ (vint w64 m₁ ∷ []) (refl, gm₁) $ fjoin ! $ move ! (1 ∷ 0 ∷ []) $ fjoin ! $ move ! (4 ∷ 0 ∷ []) $ fjoin ! $ move ! (5 ∷ 0 ∷ []) $ fjoin ! $ move ! (6 ∷ 0 ∷ []) $ fjoin ! $ move ! (7 ∷ 0 ∷ []) $ fjoin ! $ move ! (8 ∷ 0 ∷ []) $ fjoin ! $ move ! (16 ∷ 0 ∷ []) $ fjoin ! $ move ! (16 ∷ 0 ∷ []) $ fjoin ! $ move ! (16 ∷ 0 ∷ []) $ fjoin ! $ move ! (16 ∷ 0 ∷ []) $ fjoin ! $ move ! (16 ∷ 0 ∷ []) $ fjoin ! $ nothing ! $ move ! (11 ∷ 0 ∷ []) $ join ! $ move ! (2 ∷ 0 ∷ []) $ join ! $ move ! (10 ∷ 0 ∷ []) $ join ! $ move ! (10 ∷ 0 ∷ []) $ join ! $ move ! (10 ∷ 0 ∷ []) $ join ! $ move ! (10 ∷ 0 ∷ []) $ join ! $ move ! (10 ∷ 0 ∷ []) $ join ! $ join ! $ use1 𝓛 (raw ((Work 𝓛 at_mem run).pre (to-work l₁₄ ws₁ m₁ ν δ))) (goes-work l₁₄ ws₁ m₁ ν δ (room-few m₁ ws₁ n₁ small)) $
+        move ! (14 ∷ []) $ use1 𝓛 (‵ ((ShrSlice (named 0) κ₀ u8).own_val x₆ (v₆ ∷ [])) ⊛ ‵ ((ShrSlice (named 0) κ₀ u8).own_val x₆ (v₆ ∷ []))) ((shr_slice_copy 𝓛 (named 0) κ₀ u8).twice x₆ (v₆ ∷ [])) $ split ! $ move ! (15 ∷ []) $ use1 𝓛 (‵ ((ShrSlice (named 1) κ₁ u32).own_val x₇ (v₇ ∷ [])) ⊛ ‵ ((ShrSlice (named 1) κ₁ u32).own_val x₇ (v₇ ∷ []))) ((shr_slice_copy 𝓛 (named 1) κ₁ u32).twice x₇ (v₇ ∷ [])) $ split ! $ move ! (16 ∷ []) $ use1 𝓛 (‵ ((ShrSlice (named 2) κ₂ u16).own_val x₈ (v₈ ∷ [])) ⊛ ‵ ((ShrSlice (named 2) κ₂ u16).own_val x₈ (v₈ ∷ []))) ((shr_slice_copy 𝓛 (named 2) κ₂ u16).twice x₈ (v₈ ∷ [])) $ split ! $ move ! (17 ∷ []) $ use1 𝓛 (‵ ((ShrSlice (named 3) κ₃ u8).own_val x₉ (v₉ ∷ [])) ⊛ ‵ ((ShrSlice (named 3) κ₃ u8).own_val x₉ (v₉ ∷ []))) ((shr_slice_copy 𝓛 (named 3) κ₃ u8).twice x₉ (v₉ ∷ [])) $ split ! $ move ! (18 ∷ []) $ use1 𝓛 (‵ ((ShrSlice (named 4) κ₄ u8).own_val x₁₀ (v₁₀ ∷ [])) ⊛ ‵ ((ShrSlice (named 4) κ₄ u8).own_val x₁₀ (v₁₀ ∷ []))) ((shr_slice_copy 𝓛 (named 4) κ₄ u8).twice x₁₀ (v₁₀ ∷ [])) $ split ! $ move ! (11 ∷ []) $ lends_words 𝓛 few_records (lit< tt, lit< tt) l₁₄ ws₁ n₁ tt (named 5) (λ ν δ. nothing ! $ move ! (22 ∷ 0 ∷ []) $ fjoin ! $ owned ! usize (Is usize) (uint_Makes 𝓛 w64) (length x₁₁.now) (vint w64 (length x₁₁.now) ∷ []) (refl, g₁₁.0) $ fjoin ! $ owned ! usize (Is usize) (uint_Makes 𝓛 w64) m₁ (vint w64 m₁ ∷ []) (refl, gm₁) $ fjoin ! $ move ! (1 ∷ 0 ∷ []) $ fjoin ! $ move ! (4 ∷ 0 ∷ []) $ fjoin ! $ move ! (5 ∷ 0 ∷ []) $ fjoin ! $ move ! (6 ∷ 0 ∷ []) $ fjoin ! $ move ! (7 ∷ 0 ∷ []) $ fjoin ! $ move ! (8 ∷ 0 ∷ []) $ fjoin ! $ move ! (16 ∷ 0 ∷ []) $ fjoin ! $ move ! (16 ∷ 0 ∷ []) $ fjoin ! $ move ! (16 ∷ 0 ∷ []) $ fjoin ! $ move ! (16 ∷ 0 ∷ []) $ fjoin ! $ move ! (16 ∷ 0 ∷ []) $ fjoin ! $ nothing ! $ move ! (11 ∷ 0 ∷ []) $ join ! $ move ! (2 ∷ 0 ∷ []) $ join ! $ move ! (10 ∷ 0 ∷ []) $ join ! $ move ! (10 ∷ 0 ∷ []) $ join ! $ move ! (10 ∷ 0 ∷ []) $ join ! $ move ! (10 ∷ 0 ∷ []) $ join ! $ move ! (10 ∷ 0 ∷ []) $ join ! $ join ! $ use1 𝓛 (raw ((Work 𝓛 at_mem run).pre (to-work l₁₄ ws₁ m₁ ν δ))) (goes-work l₁₄ ws₁ m₁ ν δ (room-few m₁ ws₁ n₁ small)) $
         calls_at ! fm (Work 𝓛 at_mem run) known-work (to-work l₁₄ ws₁ m₁ ν δ) (and_then ! (load ! (from ! (stop !)) (look ! 68 refl)) (and_then ! (load ! (from ! (stop !)) (look ! 66 refl)) (and_then ! (load ! (from ! (stop !)) (look ! 64 refl)) (and_then ! (load ! (from ! (stop !)) (look ! 62 refl)) (and_then ! (load ! (from ! (stop !)) (look ! 60 refl)) (and_then ! (load ! (from ! (stop !)) (look ! 58 refl)) (and_then ! (load ! (from ! (stop !)) (look ! 56 refl)) (and_then ! (load ! (from ! (stop !)) (look ! 54 refl)) (and_then ! (load ! (from ! (stop !)) (look ! 52 refl)) (and_then ! (load ! (from ! (stop !)) (look ! 50 refl)) (and_then ! (load ! (from ! (stop !)) (look ! 13 refl)) (and_then ! (load ! (from ! (stop !)) (look ! 37 refl)) (and_then ! (load ! (from ! (stop !)) (look ! 35 refl)) (and_then ! (load ! (from ! (stop !)) (look ! 9 refl)) (no_more !))))))))))))))) (λ w'.
         use1 𝓛 (later (some (λ (r : Reply). ((‵ (flft κ₀ q₀) ⊛ (‵ (flft κ₁ q₁) ⊛ (‵ (flft κ₂ q₂) ⊛ (‵ (flft κ₃ q₃) ⊛ (‵ (flft κ₄ q₄) ⊛ (‵ (flft (ν ∷ []) full_share) ⊛ (‵ (flft κ₆ q₆) ⊛ (‵ ftrue)))))))) ⊛ ‵ ((Reply.the_row).own_val r (w' ∷ []))) ⊛ raw (ensured 𝓛 work-f.ended (work-f.clauses 𝓛 at_mem run) (κ₀, (κ₁, (κ₂, (κ₃, (κ₄, (ν ∷ [], (κ₆, tt))))))) (x₁, (x₂, (x₃, (x₄, (x₅, (x₆, (x₇, (x₈, (x₉, (x₁₀, (lying l₁₄ ws₁ δ, (m₁, ((length x₁₁.now), (x₁₂, tt)))))))))))))) tt r)))) (id⊢ 𝓤 _) $ await ! tt $ pick ! (λ r.
         split ! $ move ! (1 ∷ []) $ use1 𝓛 (some (λ (zs : Unit {0} × (Unit {0} × (Unit {0} × (Unit {0} × (Unit {0} × (Unit {0} × (Unit {0} × (Unit {0} × (Unit {0} × (Unit {0} × (List ℕ × (Unit {0} × (Unit {0} × (List ℕ × (Unit {0}))))))))))))))). ‵ (lasts work-f.ended (κ₀, (κ₁, (κ₂, (κ₃, (κ₄, (ν ∷ [], (κ₆, tt))))))) (x₁, (x₂, (x₃, (x₄, (x₅, (x₆, (x₇, (x₈, (x₉, (x₁₀, (lying l₁₄ ws₁ δ, (m₁, ((length x₁₁.now), (x₁₂, tt)))))))))))))) zs) ⊛ raw (fact 𝓤 (Gives (λ (s : Store) (o : List ℕ). filled (wrote_parity row x₁ x₂ (record { sequence = x₃; timestamp = x₄; ssrc = x₅ }) s o)) (length x₁₁.now) x₁.k m₁ x₆.now x₇.now x₈.now x₉.now x₁₀.now ws₁ x₁₂.now zs.1.1.1.1.1.1.1.1.1.1.1.1.1.0 r)))) (id⊢ 𝓤 _) $ pick ! (λ zs.
@@ -194,7 +194,7 @@ module _ {M : Type 1} {𝓤 : Ura M} (𝓛 : Logic 𝓤) (at_mem : Memory → SP
         assigns ! (addr ! (from ! (fld ! refl (hop ! (look_in ! 51 (sub ! 0 refl (whole !))) (stop !))))) (from ! (stop !)) (init ! 27 refl (tt, tt)) $ assigns ! (agg ! (and_then ! (load ! (from ! (stop !)) (look ! 27 refl)) (and_then ! (load ! (from ! (fld ! refl (stop !))) (look_in ! 51 (sub ! 1 refl (whole !)))) (no_more !)))) (from ! (stop !)) (init ! 25 refl (tt, (tt, (record { fits = (room most_records (lit< tt, lit< tt) ws₃ n₃).0 }, tt)))) $
         assigns ! (of_opd ! (load ! (from ! (fld ! refl (stop !))) (look_in ! 59 (sub ! 1 refl (whole !))))) (from ! (stop !)) (store ! 47 refl (tt, record { fits = g₁₁.0 })) $
         assigns ! (addr ! (from ! (fld ! refl (hop ! (look_in ! 57 (sub ! 0 refl (whole !))) (stop !))))) (from ! (stop !)) (init ! 23 refl (tt, tt)) $ assigns ! (agg ! (and_then ! (load ! (from ! (stop !)) (look ! 23 refl)) (and_then ! (load ! (from ! (fld ! refl (stop !))) (look_in ! 57 (sub ! 1 refl (whole !)))) (no_more !)))) (from ! (stop !)) (init ! 21 refl (tt, (tt, (record { fits = g₁₂.0 }, tt)))) $
-        move ! (15 ∷ []) $ use1 𝓛 (‵ ((ShrSlice (named 0) κ₀ u8).own_val x₆ (v₆ ∷ [])) ⊛ ‵ ((ShrSlice (named 0) κ₀ u8).own_val x₆ (v₆ ∷ []))) ((shr_slice_copy 𝓛 (named 0) κ₀ u8).twice x₆ (v₆ ∷ [])) $ split ! $ move ! (16 ∷ []) $ use1 𝓛 (‵ ((ShrSlice (named 1) κ₁ u32).own_val x₇ (v₇ ∷ [])) ⊛ ‵ ((ShrSlice (named 1) κ₁ u32).own_val x₇ (v₇ ∷ []))) ((shr_slice_copy 𝓛 (named 1) κ₁ u32).twice x₇ (v₇ ∷ [])) $ split ! $ move ! (17 ∷ []) $ use1 𝓛 (‵ ((ShrSlice (named 2) κ₂ u16).own_val x₈ (v₈ ∷ [])) ⊛ ‵ ((ShrSlice (named 2) κ₂ u16).own_val x₈ (v₈ ∷ []))) ((shr_slice_copy 𝓛 (named 2) κ₂ u16).twice x₈ (v₈ ∷ [])) $ split ! $ move ! (18 ∷ []) $ use1 𝓛 (‵ ((ShrSlice (named 3) κ₃ u8).own_val x₉ (v₉ ∷ [])) ⊛ ‵ ((ShrSlice (named 3) κ₃ u8).own_val x₉ (v₉ ∷ []))) ((shr_slice_copy 𝓛 (named 3) κ₃ u8).twice x₉ (v₉ ∷ [])) $ split ! $ move ! (19 ∷ []) $ use1 𝓛 (‵ ((ShrSlice (named 4) κ₄ u8).own_val x₁₀ (v₁₀ ∷ [])) ⊛ ‵ ((ShrSlice (named 4) κ₄ u8).own_val x₁₀ (v₁₀ ∷ []))) ((shr_slice_copy 𝓛 (named 4) κ₄ u8).twice x₁₀ (v₁₀ ∷ [])) $ split ! $ move ! (11 ∷ []) $ lends-words 𝓛 most_records (lit< tt, lit< tt) l₁₅ ws₃ n₃ tt (named 5) (λ ν δ. nothing ! $ move ! (23 ∷ 0 ∷ []) $ fjoin ! $ owned ! usize (Is usize) (uint_Makes 𝓛 w64) (length x₁₁.now) (vint w64 (length x₁₁.now) ∷ []) (refl, g₁₁.0) $ fjoin ! $ owned ! usize (Is usize) (uint_Makes 𝓛 w64) m₃ (vint w64 m₃ ∷ []) (refl, gm₃) $ fjoin ! $ move ! (1 ∷ 0 ∷ []) $ fjoin ! $ move ! (4 ∷ 0 ∷ []) $ fjoin ! $ move ! (5 ∷ 0 ∷ []) $ fjoin ! $ move ! (6 ∷ 0 ∷ []) $ fjoin ! $ move ! (7 ∷ 0 ∷ []) $ fjoin ! $ move ! (8 ∷ 0 ∷ []) $ fjoin ! $ move ! (17 ∷ 0 ∷ []) $ fjoin ! $ move ! (17 ∷ 0 ∷ []) $ fjoin ! $ move ! (17 ∷ 0 ∷ []) $ fjoin ! $ move ! (17 ∷ 0 ∷ []) $ fjoin ! $ move ! (17 ∷ 0 ∷ []) $ fjoin ! $ nothing ! $ move ! (12 ∷ 0 ∷ []) $ join ! $ move ! (2 ∷ 0 ∷ []) $ join ! $ move ! (11 ∷ 0 ∷ []) $ join ! $ move ! (11 ∷ 0 ∷ []) $ join ! $ move ! (11 ∷ 0 ∷ []) $ join ! $ move ! (11 ∷ 0 ∷ []) $ join ! $ move ! (11 ∷ 0 ∷ []) $ join ! $ join ! $ use1 𝓛 (raw ((Work 𝓛 at_mem run).pre (to-work l₁₅ ws₃ m₃ ν δ))) (goes-work l₁₅ ws₃ m₃ ν δ (room-all x₁.k m₃ ws₃ x₁₁.now (was_all x₁.k m₃ k ws₃ x₁₁.now e₀ h₃) n₃)) $
+        move ! (15 ∷ []) $ use1 𝓛 (‵ ((ShrSlice (named 0) κ₀ u8).own_val x₆ (v₆ ∷ [])) ⊛ ‵ ((ShrSlice (named 0) κ₀ u8).own_val x₆ (v₆ ∷ []))) ((shr_slice_copy 𝓛 (named 0) κ₀ u8).twice x₆ (v₆ ∷ [])) $ split ! $ move ! (16 ∷ []) $ use1 𝓛 (‵ ((ShrSlice (named 1) κ₁ u32).own_val x₇ (v₇ ∷ [])) ⊛ ‵ ((ShrSlice (named 1) κ₁ u32).own_val x₇ (v₇ ∷ []))) ((shr_slice_copy 𝓛 (named 1) κ₁ u32).twice x₇ (v₇ ∷ [])) $ split ! $ move ! (17 ∷ []) $ use1 𝓛 (‵ ((ShrSlice (named 2) κ₂ u16).own_val x₈ (v₈ ∷ [])) ⊛ ‵ ((ShrSlice (named 2) κ₂ u16).own_val x₈ (v₈ ∷ []))) ((shr_slice_copy 𝓛 (named 2) κ₂ u16).twice x₈ (v₈ ∷ [])) $ split ! $ move ! (18 ∷ []) $ use1 𝓛 (‵ ((ShrSlice (named 3) κ₃ u8).own_val x₉ (v₉ ∷ [])) ⊛ ‵ ((ShrSlice (named 3) κ₃ u8).own_val x₉ (v₉ ∷ []))) ((shr_slice_copy 𝓛 (named 3) κ₃ u8).twice x₉ (v₉ ∷ [])) $ split ! $ move ! (19 ∷ []) $ use1 𝓛 (‵ ((ShrSlice (named 4) κ₄ u8).own_val x₁₀ (v₁₀ ∷ [])) ⊛ ‵ ((ShrSlice (named 4) κ₄ u8).own_val x₁₀ (v₁₀ ∷ []))) ((shr_slice_copy 𝓛 (named 4) κ₄ u8).twice x₁₀ (v₁₀ ∷ [])) $ split ! $ move ! (11 ∷ []) $ lends_words 𝓛 most_records (lit< tt, lit< tt) l₁₅ ws₃ n₃ tt (named 5) (λ ν δ. nothing ! $ move ! (23 ∷ 0 ∷ []) $ fjoin ! $ owned ! usize (Is usize) (uint_Makes 𝓛 w64) (length x₁₁.now) (vint w64 (length x₁₁.now) ∷ []) (refl, g₁₁.0) $ fjoin ! $ owned ! usize (Is usize) (uint_Makes 𝓛 w64) m₃ (vint w64 m₃ ∷ []) (refl, gm₃) $ fjoin ! $ move ! (1 ∷ 0 ∷ []) $ fjoin ! $ move ! (4 ∷ 0 ∷ []) $ fjoin ! $ move ! (5 ∷ 0 ∷ []) $ fjoin ! $ move ! (6 ∷ 0 ∷ []) $ fjoin ! $ move ! (7 ∷ 0 ∷ []) $ fjoin ! $ move ! (8 ∷ 0 ∷ []) $ fjoin ! $ move ! (17 ∷ 0 ∷ []) $ fjoin ! $ move ! (17 ∷ 0 ∷ []) $ fjoin ! $ move ! (17 ∷ 0 ∷ []) $ fjoin ! $ move ! (17 ∷ 0 ∷ []) $ fjoin ! $ move ! (17 ∷ 0 ∷ []) $ fjoin ! $ nothing ! $ move ! (12 ∷ 0 ∷ []) $ join ! $ move ! (2 ∷ 0 ∷ []) $ join ! $ move ! (11 ∷ 0 ∷ []) $ join ! $ move ! (11 ∷ 0 ∷ []) $ join ! $ move ! (11 ∷ 0 ∷ []) $ join ! $ move ! (11 ∷ 0 ∷ []) $ join ! $ move ! (11 ∷ 0 ∷ []) $ join ! $ join ! $ use1 𝓛 (raw ((Work 𝓛 at_mem run).pre (to-work l₁₅ ws₃ m₃ ν δ))) (goes-work l₁₅ ws₃ m₃ ν δ (room-all x₁.k m₃ ws₃ x₁₁.now (was_all x₁.k m₃ k ws₃ x₁₁.now e₀ h₃) n₃)) $
         calls_at ! fm (Work 𝓛 at_mem run) known-work (to-work l₁₅ ws₃ m₃ ν δ) (and_then ! (load ! (from ! (stop !)) (look ! 68 refl)) (and_then ! (load ! (from ! (stop !)) (look ! 66 refl)) (and_then ! (load ! (from ! (stop !)) (look ! 64 refl)) (and_then ! (load ! (from ! (stop !)) (look ! 62 refl)) (and_then ! (load ! (from ! (stop !)) (look ! 60 refl)) (and_then ! (load ! (from ! (stop !)) (look ! 58 refl)) (and_then ! (load ! (from ! (stop !)) (look ! 56 refl)) (and_then ! (load ! (from ! (stop !)) (look ! 54 refl)) (and_then ! (load ! (from ! (stop !)) (look ! 52 refl)) (and_then ! (load ! (from ! (stop !)) (look ! 50 refl)) (and_then ! (load ! (from ! (stop !)) (look ! 14 refl)) (and_then ! (load ! (from ! (stop !)) (look ! 38 refl)) (and_then ! (load ! (from ! (stop !)) (look ! 36 refl)) (and_then ! (load ! (from ! (stop !)) (look ! 10 refl)) (no_more !))))))))))))))) (λ w'.
         use1 𝓛 (later (some (λ (r : Reply). ((‵ (flft κ₀ q₀) ⊛ (‵ (flft κ₁ q₁) ⊛ (‵ (flft κ₂ q₂) ⊛ (‵ (flft κ₃ q₃) ⊛ (‵ (flft κ₄ q₄) ⊛ (‵ (flft (ν ∷ []) full_share) ⊛ (‵ (flft κ₆ q₆) ⊛ (‵ ftrue)))))))) ⊛ ‵ ((Reply.the_row).own_val r (w' ∷ []))) ⊛ raw (ensured 𝓛 work-f.ended (work-f.clauses 𝓛 at_mem run) (κ₀, (κ₁, (κ₂, (κ₃, (κ₄, (ν ∷ [], (κ₆, tt))))))) (x₁, (x₂, (x₃, (x₄, (x₅, (x₆, (x₇, (x₈, (x₉, (x₁₀, (lying l₁₅ ws₃ δ, (m₃, ((length x₁₁.now), (x₁₂, tt)))))))))))))) tt r)))) (id⊢ 𝓤 _) $ await ! tt $ pick ! (λ r.
         split ! $ move ! (1 ∷ []) $ use1 𝓛 (some (λ (zs : Unit {0} × (Unit {0} × (Unit {0} × (Unit {0} × (Unit {0} × (Unit {0} × (Unit {0} × (Unit {0} × (Unit {0} × (Unit {0} × (List ℕ × (Unit {0} × (Unit {0} × (List ℕ × (Unit {0}))))))))))))))). ‵ (lasts work-f.ended (κ₀, (κ₁, (κ₂, (κ₃, (κ₄, (ν ∷ [], (κ₆, tt))))))) (x₁, (x₂, (x₃, (x₄, (x₅, (x₆, (x₇, (x₈, (x₉, (x₁₀, (lying l₁₅ ws₃ δ, (m₃, ((length x₁₁.now), (x₁₂, tt)))))))))))))) zs) ⊛ raw (fact 𝓤 (Gives (λ (s : Store) (o : List ℕ). filled (wrote_parity row x₁ x₂ (record { sequence = x₃; timestamp = x₄; ssrc = x₅ }) s o)) (length x₁₁.now) x₁.k m₃ x₆.now x₇.now x₈.now x₉.now x₁₀.now ws₃ x₁₂.now zs.1.1.1.1.1.1.1.1.1.1.1.1.1.0 r)))) (id⊢ 𝓤 _) $ pick ! (λ zs.

@@ -2,7 +2,7 @@
 use mathlib.Core.Path.{ap, ◌∙◌}
 use lib.Dec.{eqb}
 use Rattle.sequence.specs.Lists.{count}
-use Rattle.window.specs.Plain.{shape_of, group-plain}
+use Rattle.window.specs.Plain.{shape_of, group_plain}
 use native.Mathlib.Omega.{arith}
 use Rattle.engine.proofs.is_member.Goals as goal
 
@@ -25,4 +25,4 @@ returns c =
     let the-offset-of = c.offset_of-offset in
     let the-na-of = c.na_of-na in
     let the-on-line = c.on_line in
-    λ i. ap (count (eqb the-args.i)) (group-plain the-args.w (omega (arith, the-good)) the-pre the-args.stream the-args.snbase i) ∙ rw (← the-position.ensures, ← the-offset-of.ensures, ← the-na-of.ensures) the-on-line.ensures
+    λ i. ap (count (eqb the-args.i)) (group_plain the-args.w (omega (arith, the-good)) the-pre the-args.stream the-args.snbase i) ∙ rw (← the-position.ensures, ← the-offset-of.ensures, ← the-na-of.ensures) the-on-line.ensures

@@ -7,7 +7,7 @@ use Rattle.window.specs.Order.{used}
 use Rattle.window.specs.Plain.{Inside}
 use Rattle.table.specs.View.{hand, it_at}
 use Rattle.table.specs.Note.{note-low}
-use Rattle.engine.proofs.Again.{free_stays, other-stays, looked-again}
+use Rattle.engine.proofs.Again.{free_stays, other-stays, looked_again}
 use native.Mathlib.Omega.{arith}
 use Rattle.engine.proofs.look_again_at.Goals as goal
 
@@ -41,4 +41,4 @@ put_note-requires c = (c.requires.2, omega (arith, note-low c.look-found.result 
 pub returns : goal.returns
 returns c =
     let a = c.args in
-    looked-again a.w a.i a.marks.now (hand a.rows.now) a.j c.record_at-v.result c.record_at-v.ensures c.requires.2 c.look-found.result c.look-found.ensures.0 c.note_of-note.result c.note_of-note.ensures _ c.put_note.ensures
+    looked_again a.w a.i a.marks.now (hand a.rows.now) a.j c.record_at-v.result c.record_at-v.ensures c.requires.2 c.look-found.result c.look-found.ensures.0 c.note_of-note.result c.note_of-note.ensures _ c.put_note.ensures

@@ -2,7 +2,7 @@
 -- the parts of a store, by its lists
 use mathlib.Core.Path.{refl, ◌∙◌}
 use Rattle.table.specs.Laws.{length-same}
-use Rattle.engine.proofs.Going.{going_start, going_on, going-rest, going_done}
+use Rattle.engine.proofs.Going.{going_start, going_on, going_rest, going_done}
 use native.Mathlib.Omega.{arith}
 use Rattle.engine.proofs.settle.Invariants.{parts}
 use Rattle.engine.proofs.settle.Goals as goal
@@ -40,7 +40,7 @@ pub returns-then-r-eq0 : goal.returns-then-r-eq0
 returns-then-r-eq0 c =
     let a = c.args in
     let l = c.loop-left in
-    going-rest a.w (parts a.media.now a.timestamps.now a.lengths.now a.marks.now a.parity.now a.rows.now) l.v (parts l.media l.timestamps l.lengths l.marks l.parity l.rows) l.rebuilt l.spoilt l.left l.invariant.0 c.one_round-r.result _ c.one_round-r.ensures c.if-r-eq0.true
+    going_rest a.w (parts a.media.now a.timestamps.now a.lengths.now a.marks.now a.parity.now a.rows.now) l.v (parts l.media l.timestamps l.lengths l.marks l.parity l.rows) l.rebuilt l.spoilt l.left l.invariant.0 c.one_round-r.result _ c.one_round-r.ensures c.if-r-eq0.true
 
 pub overflow_add-rebuilt : goal.overflow_add-rebuilt
 overflow_add-rebuilt c = omega (arith, c.one_round-r.ensures.small, c.loop-left.invariant.0.counted, c.loop-left-test.true, c.well_formed)

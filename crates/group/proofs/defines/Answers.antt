@@ -1,6 +1,6 @@
 -- `group::defines` meets its contract: what the group gives is added up, and compared as far as it reaches. Assumes nothing.
 use Rattle.window.specs.Group.{group}
-use Rattle.group.proofs.Defined.{other-size, other-numbers, by-payload}
+use Rattle.group.proofs.Defined.{other-size, other_numbers, by-payload}
 use native.Mathlib.Omega.{arith}
 use Rattle.group.proofs.defines.Goals as goal
 
@@ -17,7 +17,7 @@ pub returns-then-r-timestamp : goal.returns-then-r-timestamp
 returns-then-r-timestamp c =
     let a = c.args in
     let x = c.sum_up-r in
-    other-numbers a.w a.media.now a.timestamps.now a.lengths.now a.marks.now (group a.w a.stream a.snbase) c.requires.2 x.result.timestamp x.result.length x.result.size x.ensures.0 x.ensures.1 x.ensures.2 a.timestamp a.length_recovery a.size a.from a.recovery.now c.if-r-timestamp.true
+    other_numbers a.w a.media.now a.timestamps.now a.lengths.now a.marks.now (group a.w a.stream a.snbase) c.requires.2 x.result.timestamp x.result.length x.result.size x.ensures.0 x.ensures.1 x.ensures.2 a.timestamp a.length_recovery a.size a.from a.recovery.now c.if-r-timestamp.true
 
 pub same_at-requires : goal.same_at-requires
 same_at-requires c = (omega (arith, c.sum_up-r.auto, c.requires.0.p-high, c.requires.3), omega (arith, c.requires.4))

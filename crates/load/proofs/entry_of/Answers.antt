@@ -3,11 +3,11 @@ use mathlib.Core.Path.{ap, ◌∙◌}
 use native.Mathlib.Omega.{arith}
 use Rattle.capture.specs.Content.{table_end}
 use Rattle.capture.specs.Claims.{few-entries}
-use Rattle.load.proofs.Front.{entry-none, entry_past, entry-good, size-bytes, start-bytes}
+use Rattle.load.proofs.Front.{entry_none, entry_past, entry_good, size-bytes, start-bytes}
 use Rattle.load.proofs.entry_of.Goals as goal
 
 pub returns-then-count-i : goal.returns-then-count-i
-returns-then-count-i c = c.no_entry.ensures ∙ entry-none c.args.front.now c.args.i _ (ap (λ h. h.count) c.header_of-h.ensures) c.if-count-i.true
+returns-then-count-i c = c.no_entry.ensures ∙ entry_none c.args.front.now c.args.i _ (ap (λ h. h.count) c.header_of-h.ensures) c.if-count-i.true
 
 pub overflow_mul-i : goal.overflow_mul-i
 overflow_mul-i c = omega (arith, few-entries c.args.front.now, ap (λ h. h.count) c.header_of-h.ensures, c.if-count-i.false)
@@ -28,4 +28,4 @@ pub returns : goal.returns
 returns c =
     let f = c.args.front.now in
     let i = c.args.i in
-    entry-good f i _ (ap (λ h. h.count) c.header_of-h.ensures) _ _ _ c.if-count-i.false c.if-front-i.false c.byte_at.ensures (c.at32.ensures ∙ start-bytes f (table_end i)) (c.wide_at.ensures ∙ size-bytes f (table_end i))
+    entry_good f i _ (ap (λ h. h.count) c.header_of-h.ensures) _ _ _ c.if-count-i.false c.if-front-i.false c.byte_at.ensures (c.at32.ensures ∙ start-bytes f (table_end i)) (c.wide_at.ensures ∙ size-bytes f (table_end i))

@@ -7,7 +7,7 @@ use lib.ListN.{length, get_or}
 use borrow.Author.Tests.{ne_eqb}
 use Rattle.group.proofs.Rows.{row_ends}
 use Rattle.moving.specs.Lies.{positions}
-use Rattle.moving.proofs.Slots.{lost-slot, lost-size, held-slot, held-size}
+use Rattle.moving.proofs.Slots.{lost_slot, lost_size, held-slot, held-size}
 use native.Mathlib.Omega.{arith}
 use borrow.Author.Rules.{rules}
 use Rattle.moving.proofs.leave.Statement.{statement}
@@ -29,7 +29,7 @@ returns : tie.Need-returns
 returns c =
     let a = c.before.before.before.before.before.before.before.before.before.before.before.args in
     let s = positions a.media.now a.timestamps.now a.lengths.now a.marks.now in
-    (lost-slot a.w s a.i c.before.before.before.before.if1.true a.out.now _ c.before.before.zero-at.ensures, lost-size a.w s a.i c.before.before.before.before.if1.true, omega arith)
+    (lost_slot a.w s a.i c.before.before.before.before.if1.true a.out.now _ c.before.before.zero-at.ensures, lost_size a.w s a.i c.before.before.before.before.if1.true, omega arith)
 
 mul_wide : tie.Need-overflow-mul-wide
 mul_wide c = search rules

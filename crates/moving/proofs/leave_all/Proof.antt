@@ -1,5 +1,5 @@
 -- `moving::leave_all` meets its contract: after i turns the first i packets have left. Assumes nothing.
-use Rattle.moving.proofs.Slots.{one-most, slots_lent, sizes-more, count_next}
+use Rattle.moving.proofs.Slots.{one_most, slots_lent, sizes-more, count_next}
 use mathlib.Core.Path.{◌≡◌, refl, ap, ◌∙◌}
 use mathlib.Core.Bool.{cond}
 use Prim.Native.Nat.{ℕ, ◌+◌, ◌*◌, ◌-◌, ◌≤◌}
@@ -63,7 +63,7 @@ add-count c =
     let a = c.before.before.before.before.before.before.before.before.before.before.before.before.before.before.args in
     let l = c.before.before.before.before.before.before.loop in
     let s = positions a.media.now a.timestamps.now a.lengths.now a.marks.now in
-    let few = one-most a.w s l.i c.one.result (c.one.ensures ∙ ap (λ (n : ℕ). cond (eqb n 0) 0 1) c.before.before.before.leave.ensures.1) in
+    let few = one_most a.w s l.i c.one.result (c.one.ensures ∙ ap (λ (n : ℕ). cond (eqb n 0) 0 1) c.before.before.before.leave.ensures.1) in
     omega (arith, l.invariant.4, c.before.before.before.before.before.before.before.before.before.before.before.before.before.before.requires.0, c.before.before.before.before.before.before.before.before.before.before.before.before.before.before.requires.1.set_up.n-high)
 
 add-i : tie.Need-overflow-add-i invariant-loop decreases-loop
@@ -78,7 +78,7 @@ loop-again c =
     let l = c.before.before.before.before.before.before.loop in
     let s = positions a.media.now a.timestamps.now a.lengths.now a.marks.now in
     let e = c.one.ensures ∙ ap (λ (n : ℕ). cond (eqb n 0) 0 1) c.before.before.before.leave.ensures.1 in
-    let few = one-most a.w s l.i c.one.result e in (
+    let few = one_most a.w s l.i c.one.result e in (
       omega arith,
       slots_lent a.w s l.i a.out.now l.out c.before.before.before.leave.new.1.1.1.1.1.1.0 l.invariant.1 c.before.before.before.leave.ensures.0,
       sizes-more a.w s l.i c.before.before.before.leave.result a.sizes.now l.sizes (omega (arith, c.before.before.before.before.before.before.before.before.before.before.before.before.before.before.requires.3)) l.invariant.2 c.before.before.before.leave.ensures.1,

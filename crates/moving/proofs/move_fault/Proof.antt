@@ -5,7 +5,7 @@ use borrow.Author.Tests.{ltb-false}
 use lib.Dec.{ltb}
 use Rattle.sequence.specs.Lists.{or_split}
 use Rattle.table.specs.View.{hand}
-use Rattle.moving.proofs.Tests.{set-up-stops, move-stops, standing-says}
+use Rattle.moving.proofs.Tests.{set_up-stops, move-stops, standing-says}
 use borrow.Author.Rules.{rules}
 use Rattle.moving.proofs.move_fault.Statement.{statement}
 use Rattle.moving.proofs.move_fault.Tie as tie
@@ -14,7 +14,7 @@ set-up-fault-requires : tie.Need-set-up-fault-requires
 set-up-fault-requires c κs = search rules
 
 returns : tie.Need-returns
-returns c = let a = c.before.before.before.before.before.args in set-up-stops a.w a.by a.z a.room a.count a.lengths.now a.marks.now (hand a.rows.now) c.before.set-up-fault.result c.before.set-up-fault.ensures c.if1.true
+returns c = let a = c.before.before.before.before.before.args in set_up-stops a.w a.by a.z a.room a.count a.lengths.now a.marks.now (hand a.rows.now) c.before.set-up-fault.result c.before.set-up-fault.ensures c.if1.true
 
 returns-2 : tie.Need-returns-2
 returns-2 c = let a = c.before.before.before.before.before.before.before.args in move-stops a.w a.by a.z a.room a.count a.lengths.now a.marks.now (hand a.rows.now) (sym c.before.before.before.set-up-fault.ensures ∙ c.before.before.if1.false) c.if2.true

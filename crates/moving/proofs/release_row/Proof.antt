@@ -38,7 +38,7 @@ same-length-4 : tie.Need-same-length-4
 same-length-4 c = search rules
 
 returns-3 : tie.Need-returns-3
-returns-3 c = rw (c.before.before.before.before.free-row.ensures, ← c.before.before.before.before.before.before.before.before.before.before.before.record-at.ensures, eq-eqb c.before.before.before.before.before.before.before.before.before.before.before.record-at.result.in_use 1 c.before.before.before.before.before.before.before.before.before.if1.false, ← c.before.before.before.before.before.before.before.before.position.ensures, lt-ltb c.before.before.before.before.before.before.before.before.position.result c.before.before.before.before.before.before.before.before.before.before.before.before.before.before.before.args.by c.before.before.before.before.before.before.before.if2.false)
+returns-3 c = rw (c.before.before.before.before.free_row_lem.ensures, ← c.before.before.before.before.before.before.before.before.before.before.before.record-at.ensures, eq-eqb c.before.before.before.before.before.before.before.before.before.before.before.record-at.result.in_use 1 c.before.before.before.before.before.before.before.before.before.if1.false, ← c.before.before.before.before.before.before.before.before.position.ensures, lt-ltb c.before.before.before.before.before.before.before.before.position.result c.before.before.before.before.before.before.before.before.before.before.before.before.before.before.before.args.by c.before.before.before.before.before.before.before.if2.false)
 
 pub release-row-spec : {M : Type 1} → statement M
 release-row-spec =

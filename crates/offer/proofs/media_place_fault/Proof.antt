@@ -6,7 +6,7 @@ use Rattle.sequence.specs.Wrap.{ahead}
 use Rattle.window.specs.Limits.{width}
 use Rattle.window.specs.Store.{stored}
 use Rattle.group.proofs.Rows.{row_ends}
-use Rattle.offer.proofs.Place.{outside, free, otherwise-long, repeated, differs}
+use Rattle.offer.proofs.Place.{outside, free, otherwise_long, repeated, differs}
 use native.Mathlib.Omega.{arith}
 use borrow.Author.Rules.{rules}
 use Rattle.offer.proofs.media_place_fault.Statement.{statement}
@@ -51,7 +51,7 @@ returns-3 : tie.Need-returns-3
 returns-3 c =
     let a = c.before.before.before.before.before.before.before.before.before.before.before.before.before.before.args in
     let e = c.before.before.before.before.before.before.before.position.ensures ∙ ap (ahead width a.w.base) c.before.before.before.before.before.before.before.before.sequence-number.ensures in
-    (λ parity t. otherwise-long a.w a.datagram.now (stored a.media.now a.timestamps.now a.lengths.now a.marks.now parity t) c.before.before.before.before.before.before.before.position.result e c.before.before.before.before.before.if1.false c.before.before.before.if2.false (λ z. c.if3.true (c.before.wide.ensures.0 ∙ z)), λ z. absurd (omega (arith, z)))
+    (λ parity t. otherwise_long a.w a.datagram.now (stored a.media.now a.timestamps.now a.lengths.now a.marks.now parity t) c.before.before.before.before.before.before.before.position.result e c.before.before.before.before.before.if1.false c.before.before.before.if2.false (λ z. c.if3.true (c.before.wide.ensures.0 ∙ z)), λ z. absurd (omega (arith, z)))
 
 mul-if4 : tie.Need-overflow-mul-if4
 mul-if4 c = omega (arith, c.before.before.before.before.before.if1.false, c.before.before.before.before.before.before.before.before.before.before.before.before.before.before.requires.0.n-high)

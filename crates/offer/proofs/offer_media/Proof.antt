@@ -7,7 +7,7 @@ use Rattle.table.specs.View.{hand}
 use Rattle.table.specs.Laws.{length-same}
 use Rattle.engine.specs.Round.{Parts}
 use Rattle.offer.proofs.Tests.{media-long}
-use Rattle.offer.proofs.Ways.{stands, serves, media-stands, media-wrong, media-placed, media-accepted}
+use Rattle.offer.proofs.Ways.{stands, serves, media-stands, media_wrong, media-placed, media-accepted}
 use native.Mathlib.Omega.{arith}
 use borrow.Author.Rules.{rules}
 use Rattle.offer.proofs.offer_media.Statement.{statement}
@@ -75,7 +75,7 @@ returns-2 : tie.Need-returns-2
 returns-2 c =
     let a = c.before.before.before.before.before.before.before.before.before.before.before.before.before.before.before.before.before.before.before.before.args in
     let x = parts a.media.now a.timestamps.now a.lengths.now a.marks.now a.parity.now a.rows.now in
-    (rw c.refused2.ensures (media-wrong a.w x a.len _ c.before.before.before.before.before.before.standing.result c.before.before.before.before.before.before.standing.ensures a.datagram.now c.before.before.before.if1.false c.before.before.media-fault.result c.before.before.media-fault.ensures c.before.if2.true), rw c.refused2.ensures)
+    (rw c.refused2.ensures (media_wrong a.w x a.len _ c.before.before.before.before.before.before.standing.result c.before.before.before.before.before.before.standing.ensures a.datagram.now c.before.before.before.if1.false c.before.before.media-fault.result c.before.before.media-fault.ensures c.before.if2.true), rw c.refused2.ensures)
 
 media-place-fault-requires : tie.Need-media-place-fault-requires
 media-place-fault-requires c κs =

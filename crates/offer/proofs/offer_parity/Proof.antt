@@ -9,7 +9,7 @@ use Rattle.table.specs.View.{hand}
 use Rattle.table.specs.Laws.{length-same}
 use Rattle.engine.specs.Round.{Parts}
 use Rattle.offer.proofs.Tests.{parity-long}
-use Rattle.offer.proofs.Ways.{stands, serves, parity-stands, parity-wrong, parity-placed, parity-accepted, parity-spent, parity-held}
+use Rattle.offer.proofs.Ways.{stands, serves, parity-stands, parity_wrong, parity-placed, parity-accepted, parity-spent, parity_held_lem}
 use native.Mathlib.Omega.{arith}
 use borrow.Author.Rules.{rules}
 use Rattle.offer.proofs.offer_parity.Statement.{statement}
@@ -77,7 +77,7 @@ returns-2 : tie.Need-returns-2
 returns-2 c =
     let a = c.before.before.before.before.before.before.before.before.before.before.before.before.before.before.before.before.before.before.before.before.args in
     let x = parts a.media.now a.timestamps.now a.lengths.now a.marks.now a.parity.now a.rows.now in
-    rw c.refused2.ensures (parity-wrong a.w x a.len _ c.before.before.before.before.before.before.standing.result c.before.before.before.before.before.before.standing.ensures a.stream a.datagram.now c.before.before.before.if1.false c.before.before.parity-fault.result c.before.before.parity-fault.ensures c.before.if2.true)
+    rw c.refused2.ensures (parity_wrong a.w x a.len _ c.before.before.before.before.before.before.standing.result c.before.before.before.before.before.before.standing.ensures a.stream a.datagram.now c.before.before.before.if1.false c.before.before.parity-fault.result c.before.before.parity-fault.ensures c.before.if2.true)
 
 parity-place-fault-requires : tie.Need-parity-place-fault-requires
 parity-place-fault-requires c κs =
@@ -212,7 +212,7 @@ returns-6 : tie.Need-returns-6
 returns-6 c =
     let a = c.before.before.before.before.before.before.before.before.before.before.before.before.before.before.before.before.before.before.before.before.before.before.before.before.before.before.before.before.before.before.before.before.before.before.before.args in
     let x = parts a.media.now a.timestamps.now a.lengths.now a.marks.now a.parity.now a.rows.now in
-    parity-held a.w x a.len _ c.before.before.before.before.before.before.before.before.before.before.before.before.before.before.before.before.before.before.before.before.before.standing.result c.before.before.before.before.before.before.before.before.before.before.before.before.before.before.before.before.before.before.before.before.before.standing.ensures a.stream a.datagram.now c.before.before.before.before.before.before.before.before.before.before.before.before.before.before.before.before.before.before.if1.false c.before.before.before.before.before.before.before.before.before.before.before.before.before.before.before.before.before.parity-fault.result c.before.before.before.before.before.before.before.before.before.before.before.before.before.before.before.before.before.parity-fault.ensures c.before.before.before.before.before.before.before.before.before.before.before.before.before.before.before.before.if2.false c.before.before.before.before.before.before.before.before.before.parity-place-fault.result.fault c.before.before.before.before.before.before.before.before.before.parity-place-fault.ensures.is c.before.before.before.before.before.before.before.if3.false (more-missing a.marks.now (group a.w a.stream (snbase a.datagram.now)) _ (sym (c.before.before.before.before.before.before.before.before.before.parity-place-fault.ensures.looked c.before.before.before.before.before.before.before.if3.false) ∙ c.before.before.before.before.before.enum-told2.given.1)) (c.before.before.before.before.before.before.before.before.before.parity-place-fault.ensures.room c.before.before.before.before.before.before.before.if3.false (rw c.before.before.before.before.before.enum-told2.given.1 (omega arith))) c.before.before.accept-held.result _ c.before.before.accept-held.ensures
+    parity_held_lem a.w x a.len _ c.before.before.before.before.before.before.before.before.before.before.before.before.before.before.before.before.before.before.before.before.before.standing.result c.before.before.before.before.before.before.before.before.before.before.before.before.before.before.before.before.before.before.before.before.before.standing.ensures a.stream a.datagram.now c.before.before.before.before.before.before.before.before.before.before.before.before.before.before.before.before.before.before.if1.false c.before.before.before.before.before.before.before.before.before.before.before.before.before.before.before.before.before.parity-fault.result c.before.before.before.before.before.before.before.before.before.before.before.before.before.before.before.before.before.parity-fault.ensures c.before.before.before.before.before.before.before.before.before.before.before.before.before.before.before.before.if2.false c.before.before.before.before.before.before.before.before.before.parity-place-fault.result.fault c.before.before.before.before.before.before.before.before.before.parity-place-fault.ensures.is c.before.before.before.before.before.before.before.if3.false (more-missing a.marks.now (group a.w a.stream (snbase a.datagram.now)) _ (sym (c.before.before.before.before.before.before.before.before.before.parity-place-fault.ensures.looked c.before.before.before.before.before.before.before.if3.false) ∙ c.before.before.before.before.before.enum-told2.given.1)) (c.before.before.before.before.before.before.before.before.before.parity-place-fault.ensures.room c.before.before.before.before.before.before.before.if3.false (rw c.before.before.before.before.before.enum-told2.given.1 (omega arith))) c.before.before.accept-held.result _ c.before.before.accept-held.ensures
 
 pub offer-parity-spec : {M : Type 1} → statement M
 offer-parity-spec =

@@ -7,7 +7,7 @@ use Rattle.window.specs.Group.{group, inside}
 use Rattle.window.specs.Look.{look}
 use Rattle.window.specs.Plain.{inside_of}
 use Rattle.table.specs.View.{hand}
-use Rattle.offer.proofs.Place.{no-13, no-14, no-15, no-18, no-16, none-of-them}
+use Rattle.offer.proofs.Place.{no_13, no_14, no_15, no_18, no_16, none_of_them}
 use native.Mathlib.Omega.{arith}
 use borrow.Author.Rules.{rules}
 use Rattle.offer.proofs.parity_place_fault.Statement.{statement}
@@ -30,7 +30,7 @@ returns c =
     let the-snbase = c.before.before.before.snbase in
     let the-group-inside = c.before.before.group-inside in
     let the-if1 = c.before.if1 in
-    rw the-refused-place.ensures (no-13 the-args.w the-args.stream the-args.datagram.now the-args.media.now the-args.timestamps.now the-args.lengths.now the-args.marks.now the-args.parity.now (hand the-args.rows.now) the-args.m the-pre.3 the-snbase.result the-snbase.ensures (sym the-group-inside.ensures ∙ not-true _ the-if1.true))
+    rw the-refused-place.ensures (no_13 the-args.w the-args.stream the-args.datagram.now the-args.media.now the-args.timestamps.now the-args.lengths.now the-args.marks.now the-args.parity.now (hand the-args.rows.now) the-args.m the-pre.3 the-snbase.result the-snbase.ensures (sym the-group-inside.ensures ∙ not-true _ the-if1.true))
 
 any-same-requires : tie.Need-any-same-requires
 any-same-requires c κs =
@@ -50,7 +50,7 @@ returns-2 c =
     let the-if1 = c.before.before.before.if1 in
     let the-any-same = c.before.before.any_same in
     let the-if2 = c.before.if2 in
-    rw the-refused-place2.ensures (no-14 the-args.w the-args.stream the-args.datagram.now the-args.media.now the-args.timestamps.now the-args.lengths.now the-args.marks.now the-args.parity.now (hand the-args.rows.now) the-args.m the-pre.3 the-snbase.result the-snbase.ensures (sym the-group-inside.ensures ∙ not-false _ the-if1.false) the-any-same.result the-any-same.ensures the-if2.true)
+    rw the-refused-place2.ensures (no_14 the-args.w the-args.stream the-args.datagram.now the-args.media.now the-args.timestamps.now the-args.lengths.now the-args.marks.now the-args.parity.now (hand the-args.rows.now) the-args.m the-pre.3 the-snbase.result the-snbase.ensures (sym the-group-inside.ensures ∙ not-false _ the-if1.false) the-any-same.result the-any-same.ensures the-if2.true)
 
 any-holds-requires : tie.Need-any-holds-requires
 any-holds-requires c κs = search rules
@@ -70,7 +70,7 @@ returns-3 c =
     let the-if2 = c.before.before.before.if2 in
     let the-any-holds = c.before.before.any-holds in
     let the-if3 = c.before.if3 in
-    rw the-refused-place3.ensures (no-15 the-args.w the-args.stream the-args.datagram.now the-args.media.now the-args.timestamps.now the-args.lengths.now the-args.marks.now the-args.parity.now (hand the-args.rows.now) the-args.m the-pre.3 the-snbase.result the-snbase.ensures (sym the-group-inside.ensures ∙ not-false _ the-if1.false) the-any-same.result the-any-same.ensures the-if2.false the-any-holds.result the-any-holds.ensures the-if3.true)
+    rw the-refused-place3.ensures (no_15 the-args.w the-args.stream the-args.datagram.now the-args.media.now the-args.timestamps.now the-args.lengths.now the-args.marks.now the-args.parity.now (hand the-args.rows.now) the-args.m the-pre.3 the-snbase.result the-snbase.ensures (sym the-group-inside.ensures ∙ not-false _ the-if1.false) the-any-same.result the-any-same.ensures the-if2.false the-any-holds.result the-any-holds.ensures the-if3.true)
 
 look-requires : tie.Need-look-requires
 look-requires c κs =
@@ -117,7 +117,7 @@ returns-4 c =
     let the-any-holds = c.before.before.before.before.before.any-holds in
     let the-if3 = c.before.before.before.before.if3 in
     let the-contradicts = c.before.before.contradicts in
-    rw c.refused-place4.ensures (no-18 the-args.w the-args.stream the-args.datagram.now the-args.media.now the-args.timestamps.now the-args.lengths.now the-args.marks.now the-args.parity.now (hand the-args.rows.now) the-args.m the-pre.3 the-snbase.result the-snbase.ensures (sym the-group-inside.ensures ∙ not-false _ the-if1.false) the-any-same.result the-any-same.ensures the-if2.false the-any-holds.result the-any-holds.ensures the-if3.false the-contradicts.result the-contradicts.ensures c.before.if4.true)
+    rw c.refused-place4.ensures (no_18 the-args.w the-args.stream the-args.datagram.now the-args.media.now the-args.timestamps.now the-args.lengths.now the-args.marks.now the-args.parity.now (hand the-args.rows.now) the-args.m the-pre.3 the-snbase.result the-snbase.ensures (sym the-group-inside.ensures ∙ not-false _ the-if1.false) the-any-same.result the-any-same.ensures the-if2.false the-any-holds.result the-any-holds.ensures the-if3.false the-contradicts.result the-contradicts.ensures c.before.if4.true)
 
 waits-requires : tie.Need-waits-requires
 waits-requires c κs = search rules
@@ -138,7 +138,7 @@ returns-5 c =
     let the-if3 = c.before.before.before.before.before.before.before.if3 in
     let the-contradicts = c.before.before.before.before.before.contradicts in
     let the-look = c.before.before.before.before.before.before.look in
-    rw c.refused-place5.ensures (no-16 the-args.w the-args.stream the-args.datagram.now the-args.media.now the-args.timestamps.now the-args.lengths.now the-args.marks.now the-args.parity.now (hand the-args.rows.now) the-args.m the-pre.3 the-snbase.result the-snbase.ensures (sym the-group-inside.ensures ∙ not-false _ the-if1.false) the-any-same.result the-any-same.ensures the-if2.false the-any-holds.result the-any-holds.ensures the-if3.false the-contradicts.result the-contradicts.ensures c.before.before.before.before.if4.false the-look.result the-look.ensures.0 c.before.before.before.waits.result c.before.before.before.waits.ensures c.before.if5.true)
+    rw c.refused-place5.ensures (no_16 the-args.w the-args.stream the-args.datagram.now the-args.media.now the-args.timestamps.now the-args.lengths.now the-args.marks.now the-args.parity.now (hand the-args.rows.now) the-args.m the-pre.3 the-snbase.result the-snbase.ensures (sym the-group-inside.ensures ∙ not-false _ the-if1.false) the-any-same.result the-any-same.ensures the-if2.false the-any-holds.result the-any-holds.ensures the-if3.false the-contradicts.result the-contradicts.ensures c.before.before.before.before.if4.false the-look.result the-look.ensures.0 c.before.before.before.waits.result c.before.before.before.waits.ensures c.before.if5.true)
 
 returns-6 : tie.Need-returns-6
 returns-6 c =
@@ -153,7 +153,7 @@ returns-6 c =
     let the-if3 = c.before.before.before.before.before.before.if3 in
     let the-contradicts = c.before.before.before.before.contradicts in
     let the-look = c.before.before.before.before.before.look in
-    none-of-them the-args.w the-args.stream the-args.datagram.now the-args.media.now the-args.timestamps.now the-args.lengths.now the-args.marks.now the-args.parity.now (hand the-args.rows.now) the-args.m the-pre.3 the-snbase.result the-snbase.ensures (sym the-group-inside.ensures ∙ not-false _ the-if1.false) the-any-same.result the-any-same.ensures the-if2.false the-any-holds.result the-any-holds.ensures the-if3.false the-contradicts.result the-contradicts.ensures c.before.before.before.if4.false the-look.result the-look.ensures.0 c.before.before.waits.result c.before.before.waits.ensures (omega (arith, c.before.before.before.before.before.before.before.before.before.before.before.before.before.before.before.before.before.before.before.before.well-formed)) the-pre.0 c.if5.false
+    none_of_them the-args.w the-args.stream the-args.datagram.now the-args.media.now the-args.timestamps.now the-args.lengths.now the-args.marks.now the-args.parity.now (hand the-args.rows.now) the-args.m the-pre.3 the-snbase.result the-snbase.ensures (sym the-group-inside.ensures ∙ not-false _ the-if1.false) the-any-same.result the-any-same.ensures the-if2.false the-any-holds.result the-any-holds.ensures the-if3.false the-contradicts.result the-contradicts.ensures c.before.before.before.if4.false the-look.result the-look.ensures.0 c.before.before.waits.result c.before.before.waits.ensures (omega (arith, c.before.before.before.before.before.before.before.before.before.before.before.before.before.before.before.before.before.before.before.before.well-formed)) the-pre.0 c.if5.false
 
 pub parity-place-fault-spec : {M : Type 1} → statement M
 parity-place-fault-spec =

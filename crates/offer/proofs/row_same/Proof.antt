@@ -105,27 +105,27 @@ mul-same-at : tie.Need-overflow-mul-same-at
 mul-same-at c =
     let a = c.before.before.before.before.before.before.before.before.before.before.before.before.before.before.before.before.before.args in
     let e : row_holds (hand a.rows.now) a.stream c.before.before.before.before.before.before.before.before.before.before.before.before.before.snbase.result a.i ≡ true = sym c.before.before.before.before.before.before.before.before.before.before.before.before.row-holds.ensures ∙ not-false _ c.before.before.before.before.before.before.before.before.before.before.before.if1.false in
-    let low : c.before.slot-at.result < a.w.k = rw c.before.slot-at.ensures (c.before.before.before.before.before.before.before.before.before.before.before.before.before.before.before.before.before.requires.1 (and_split (used (it_at (hand a.rows.now) a.i)) _ e).0) in
-    omega (arith, row_ends c.before.slot-at.result a.w.k a.w.p _ low c.before.before.before.before.before.before.before.before.before.before.before.before.before.before.before.before.before.requires.2, c.before.before.before.before.before.before.before.before.before.before.before.before.before.before.before.before.before.well-formed)
+    let low : c.before.slot_at_lem.result < a.w.k = rw c.before.slot_at_lem.ensures (c.before.before.before.before.before.before.before.before.before.before.before.before.before.before.before.before.before.requires.1 (and_split (used (it_at (hand a.rows.now) a.i)) _ e).0) in
+    omega (arith, row_ends c.before.slot_at_lem.result a.w.k a.w.p _ low c.before.before.before.before.before.before.before.before.before.before.before.before.before.before.before.before.before.requires.2, c.before.before.before.before.before.before.before.before.before.before.before.before.before.before.before.before.before.well-formed)
 
 same-at-requires : tie.Need-same-at-requires
 same-at-requires c κs =
     let a = c.before.before.before.before.before.before.before.before.before.before.before.before.before.before.before.before.before.args in
     let e : row_holds (hand a.rows.now) a.stream c.before.before.before.before.before.before.before.before.before.before.before.before.before.snbase.result a.i ≡ true = sym c.before.before.before.before.before.before.before.before.before.before.before.before.row-holds.ensures ∙ not-false _ c.before.before.before.before.before.before.before.before.before.before.before.if1.false in
-    let low : c.before.slot-at.result < a.w.k = rw c.before.slot-at.ensures (c.before.before.before.before.before.before.before.before.before.before.before.before.before.before.before.before.before.requires.1 (and_split (used (it_at (hand a.rows.now) a.i)) _ e).0) in
-    let ends = row_ends c.before.slot-at.result a.w.k a.w.p _ low c.before.before.before.before.before.before.before.before.before.before.before.before.before.before.before.before.before.requires.2 in
+    let low : c.before.slot_at_lem.result < a.w.k = rw c.before.slot_at_lem.ensures (c.before.before.before.before.before.before.before.before.before.before.before.before.before.before.before.before.before.requires.1 (and_split (used (it_at (hand a.rows.now) a.i)) _ e).0) in
+    let ends = row_ends c.before.slot_at_lem.result a.w.k a.w.p _ low c.before.before.before.before.before.before.before.before.before.before.before.before.before.before.before.before.before.requires.2 in
     (omega (arith, ends, c.before.before.before.before.before.before.before.before.before.before.before.before.before.before.before.before.before.requires.3.0, c.before.before.before.before.before.before.before.before.before.before.before.before.before.before.before.before.before.requires.3.1), omega (arith, c.before.before.before.before.before.before.before.before.before.before.before.before.before.before.before.before.before.requires.3.0))
 
 returns-5 : tie.Need-returns-5
 returns-5 c =
     let a = c.before.before.before.before.before.before.before.before.before.before.before.before.before.before.before.before.before.before.args in
     let e : row_holds (hand a.rows.now) a.stream (snbase a.datagram.now) a.i ≡ true = ap (λ (b : ℕ). row_holds (hand a.rows.now) a.stream b a.i) (sym c.before.before.before.before.before.before.before.before.before.before.before.before.before.before.snbase.ensures) ∙ sym c.before.before.before.before.before.before.before.before.before.before.before.before.before.row-holds.ensures ∙ not-false _ c.before.before.before.before.before.before.before.before.before.before.before.before.if1.false in
-    let low : c.before.before.slot-at.result < a.w.k = rw c.before.before.slot-at.ensures (c.before.before.before.before.before.before.before.before.before.before.before.before.before.before.before.before.before.before.requires.1 (and_split (used (it_at (hand a.rows.now) a.i)) _ e).0) in
+    let low : c.before.before.slot_at_lem.result < a.w.k = rw c.before.before.slot_at_lem.ensures (c.before.before.before.before.before.before.before.before.before.before.before.before.before.before.before.before.before.before.requires.1 (and_split (used (it_at (hand a.rows.now) a.i)) _ e).0) in
     let size : c.before.before.before.before.before.before.before.before.before.before.before.record-at.result.payload_length ≡ length a.datagram.now - parity_header_size = sym c.before.before.before.before.wide.ensures.0 ∙ c.before.before.before.if4.false in
-    let payloads : c.same_at.result ≡ same (padded a.w.p (take c.before.before.before.before.before.before.before.before.before.before.before.record-at.result.payload_length (drop (c.before.before.slot-at.result * a.w.p) a.parity.now))) (padded a.w.p (drop parity_header_size a.datagram.now)) =
-    c.same_at.ensures ∙ sym (rest-same parity_header_size a.w.p (c.before.before.slot-at.result * a.w.p) a.parity.now a.datagram.now c.before.before.before.before.before.before.before.before.before.before.before.before.before.before.before.before.before.before.requires.3 (row_ends c.before.before.slot-at.result a.w.k a.w.p _ low c.before.before.before.before.before.before.before.before.before.before.before.before.before.before.before.before.before.before.requires.2))
-    ∙ ap (λ (n : ℕ). same (padded a.w.p (take n (drop (c.before.before.slot-at.result * a.w.p) a.parity.now))) (padded a.w.p (drop parity_header_size a.datagram.now))) (sym size) in
-    rw (e, ← c.before.before.before.before.before.before.before.before.before.before.before.record-at.ensures, ← c.before.before.slot-at.ensures) (payloads ∙ all_same (kept a.w.p a.parity.now c.before.before.before.before.before.before.before.before.before.before.before.record-at.result c.before.before.slot-at.result) (recovery_of a.w.p a.datagram.now) (eq-eqb _ _ (c.before.before.before.before.before.before.before.before.if2.false ∙ c.before.before.before.before.before.before.before.before.before.before.timestamp-recovery.ensures)) (eq-eqb _ _ (c.before.before.before.before.before.if3.false ∙ c.before.before.before.before.before.before.before.length-recovery.ensures)) (eq-eqb _ _ (size ∙ sym (length-drop parity_header_size a.datagram.now))))
+    let payloads : c.same_at.result ≡ same (padded a.w.p (take c.before.before.before.before.before.before.before.before.before.before.before.record-at.result.payload_length (drop (c.before.before.slot_at_lem.result * a.w.p) a.parity.now))) (padded a.w.p (drop parity_header_size a.datagram.now)) =
+    c.same_at.ensures ∙ sym (rest-same parity_header_size a.w.p (c.before.before.slot_at_lem.result * a.w.p) a.parity.now a.datagram.now c.before.before.before.before.before.before.before.before.before.before.before.before.before.before.before.before.before.before.requires.3 (row_ends c.before.before.slot_at_lem.result a.w.k a.w.p _ low c.before.before.before.before.before.before.before.before.before.before.before.before.before.before.before.before.before.before.requires.2))
+    ∙ ap (λ (n : ℕ). same (padded a.w.p (take n (drop (c.before.before.slot_at_lem.result * a.w.p) a.parity.now))) (padded a.w.p (drop parity_header_size a.datagram.now))) (sym size) in
+    rw (e, ← c.before.before.before.before.before.before.before.before.before.before.before.record-at.ensures, ← c.before.before.slot_at_lem.ensures) (payloads ∙ all_same (kept a.w.p a.parity.now c.before.before.before.before.before.before.before.before.before.before.before.record-at.result c.before.before.slot_at_lem.result) (recovery_of a.w.p a.datagram.now) (eq-eqb _ _ (c.before.before.before.before.before.before.before.before.if2.false ∙ c.before.before.before.before.before.before.before.before.before.before.timestamp-recovery.ensures)) (eq-eqb _ _ (c.before.before.before.before.before.if3.false ∙ c.before.before.before.before.before.before.before.length-recovery.ensures)) (eq-eqb _ _ (size ∙ sym (length-drop parity_header_size a.datagram.now))))
 
 pub row-same-spec : {M : Type 1} → statement M
 row-same-spec =

@@ -9,7 +9,7 @@ free-record-requires c κs = search rules
 
 returns : tie.Need-returns
 returns c =
-    let the-free-record = c.free-record in
+    let the-free-record = c.free_record in
     rw the-free-record.ensures
 
 pub taken-spec : {M : Type 1} → statement M

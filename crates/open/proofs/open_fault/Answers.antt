@@ -1,7 +1,7 @@
 -- `open::open_fault` meets its contract: each return by the tests that led there. Assumes nothing.
 use mathlib.Core.Path.{sym, ◌∙◌}
 use Rattle.window.specs.Bounds.{set_up_good}
-use Rattle.open.proofs.Ways.{set-up-stops, short-stops, none-stops}
+use Rattle.open.proofs.Ways.{set_up-stops, short-stops, none-stops}
 use Rattle.open.proofs.open_fault.Goals as goal
 
 pub returns-then-bad-ne0 : goal.returns-then-bad-ne0
@@ -9,7 +9,7 @@ returns-then-bad-ne0 c =
     let the-args = c.args in
     let the-set-up-fault = c.set_up_fault-bad in
     let the-if1 = c.if-bad-ne0 in
-    set-up-stops the-args.w the-args.z _ the-set-up-fault.ensures the-if1.true
+    set_up-stops the-args.w the-args.z _ the-set-up-fault.ensures the-if1.true
 
 pub short_store-requires : goal.short_store-requires
 short_store-requires c =

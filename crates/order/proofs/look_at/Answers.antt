@@ -8,14 +8,14 @@ use Rattle.window.specs.declared.Record.{Record}
 use Rattle.table.specs.View.{hand}
 use Rattle.table.specs.Note.{note-low}
 use Rattle.order.specs.Rows.{names}
-use Rattle.order.proofs.Look.{free-row, odd-row, high-row, shapeless-row, lengthless-row, repeated-row, waiting-row, shape_inside}
+use Rattle.order.proofs.Look.{free_row_lem, odd-row, high-row, shapeless_row, lengthless_row, repeated-row, waiting-row, shape_inside}
 use native.Mathlib.Omega.{arith}
 use Rattle.order.proofs.look_at.Goals as goal
 
 pub returns-then-v-eq0 : goal.returns-then-v-eq0
 returns-then-v-eq0 c =
     let a = c.args in
-    free-row a.w a.marks.now (hand a.rows.now) a.i c.record_at-v.result c.record_at-v.ensures c.if-v-eq0.true
+    free_row_lem a.w a.marks.now (hand a.rows.now) a.i c.record_at-v.result c.record_at-v.ensures c.if-v-eq0.true
 
 pub returns-then-v-ne1 : goal.returns-then-v-ne1
 returns-then-v-ne1 c =
@@ -30,12 +30,12 @@ returns-then-w-slot_at c =
 pub returns-then-not-shape_good : goal.returns-then-not-shape_good
 returns-then-not-shape_good c =
     let a = c.args in
-    shapeless-row a.w a.marks.now (hand a.rows.now) a.i c.record_at-v.result c.record_at-v.ensures c.bad-then-not-shape_good.result c.bad-then-not-shape_good.ensures c.if-v-ne1.false c.shape_good.result c.shape_good.ensures (ap not c.if-not-shape_good.true)
+    shapeless_row a.w a.marks.now (hand a.rows.now) a.i c.record_at-v.result c.record_at-v.ensures c.bad-then-not-shape_good.result c.bad-then-not-shape_good.ensures c.if-v-ne1.false c.shape_good.result c.shape_good.ensures (ap not c.if-not-shape_good.true)
 
 pub returns-then-not-good_length : goal.returns-then-not-good_length
 returns-then-not-good_length c =
     let a = c.args in
-    lengthless-row a.w a.marks.now (hand a.rows.now) a.i c.record_at-v.result c.record_at-v.ensures c.bad-then-not-good_length.result c.bad-then-not-good_length.ensures c.if-v-ne1.false c.good_length.result (c.good_length.ensures ∙ ap (good_length a.w.p) c.wide.ensures.0) (ap not c.if-not-good_length.true)
+    lengthless_row a.w a.marks.now (hand a.rows.now) a.i c.record_at-v.result c.record_at-v.ensures c.bad-then-not-good_length.result c.bad-then-not-good_length.ensures c.if-v-ne1.false c.good_length.result (c.good_length.ensures ∙ ap (good_length a.w.p) c.wide.ensures.0) (ap not c.if-not-good_length.true)
 
 pub repeats-requires : goal.repeats-requires
 repeats-requires c = (omega (arith, c.requires.2), λ f. ap (λ (v : Record). any (names (hand c.args.rows.now) v) (up_to c.args.i)) c.record_at-v.ensures ∙ c.requires.3 f)

@@ -8,7 +8,7 @@ use Rattle.window.specs.Store.{Store, stored}
 use Rattle.window.specs.Plain.{inside_of}
 use Rattle.calls.specs.Datagram.{Outer}
 use Rattle.table.specs.View.{hand, scatter}
-use Rattle.read.proofs.Ways.{said, write-stops, group-stops, lies-inside, write_done}
+use Rattle.read.proofs.Ways.{said, write_stops, group-stops, lies-inside, write_done}
 use native.Mathlib.Omega.{arith}
 use Rattle.read.proofs.write_parity.Goals as goal
 
@@ -23,7 +23,7 @@ returns-then-fault-ne0 c =
     let lent : List Record → Store = λ t. stored a.media.now a.timestamps.now a.lengths.now a.marks.now a.parity.now (scatter hs t) in
     let o : Outer = record { sequence = a.sequence; timestamp = a.timestamp; ssrc = a.ssrc } in
     let e = said a.w a.media.now a.timestamps.now a.lengths.now a.marks.now a.parity.now a.len hs _ (length a.out.now) (28 + a.w.p) f.result f.ensures in
-    λ t l k. write-stops a.stream a.w a.snbase o (lent t) a.out.now f.result (e t l k) c.if-fault-ne0.true
+    λ t l k. write_stops a.stream a.w a.snbase o (lent t) a.out.now f.result (e t l k) c.if-fault-ne0.true
 
 pub group_fault-own-requires : goal.group_fault-own-requires
 group_fault-own-requires c =

@@ -5,8 +5,8 @@ use lib.ListN.{length, take}
 use borrow.Author.Tests.{not-true, not-false}
 use Rattle.table.specs.View.{hand}
 use Rattle.calls.specs.Call.{wrote_parity}
-use Rattle.receiver.proofs.Part.{part-words, part-long}
-use Rattle.receiver.proofs.Ways.{unread, read-part}
+use Rattle.receiver.proofs.Part.{part_words, part_long}
+use Rattle.receiver.proofs.Ways.{unread, read_part}
 use native.Mathlib.Omega.{arith}
 use borrow.Author.Rules.{rules}
 use Rattle.receiver.proofs.write_parity.Statement.{statement}
@@ -28,10 +28,10 @@ slice-relend-prefix-write-parity : tie.Need-slice-relend-prefix-write-parity
 slice-relend-prefix-write-parity c = omega (arith, (c.before.has_room.ensures.0 (not-false _ c.if1.false)).1)
 
 slice-aggregate-write-parity : tie.Need-slice-aggregate-write-parity
-slice-aggregate-write-parity c = sym (part-words c.before.before.before.before.before.before.before.before.before.before.args.words.now c.before.before.before.before.before.before.before.before.before.before.args.m (c.before.before.has_room.ensures.0 (not-false _ c.before.if1.false)).1)
+slice-aggregate-write-parity c = sym (part_words c.before.before.before.before.before.before.before.before.before.before.args.words.now c.before.before.before.before.before.before.before.before.before.before.args.m (c.before.before.has_room.ensures.0 (not-false _ c.before.if1.false)).1)
 
 write-parity-requires : tie.Need-write-parity-requires
-write-parity-requires c κs = (c.before.before.before.before.before.before.before.before.before.before.before.requires, part-long c.before.before.before.before.before.before.before.before.before.before.before.args.words.now c.before.before.before.before.before.before.before.before.before.before.before.args.m (c.before.before.before.has_room.ensures.0 (not-false _ c.before.before.if1.false)).1)
+write-parity-requires c κs = (c.before.before.before.before.before.before.before.before.before.before.before.requires, part_long c.before.before.before.before.before.before.before.before.before.before.before.args.words.now c.before.before.before.before.before.before.before.before.before.before.before.args.m (c.before.before.before.has_room.ensures.0 (not-false _ c.before.before.if1.false)).1)
 
 handed-requires-2 : tie.Need-handed-requires-2
 handed-requires-2 c κs = search rules
@@ -43,7 +43,7 @@ same-length-2 : tie.Need-same-length-2
 same-length-2 c = search rules
 
 returns-2 : tie.Need-returns-2
-returns-2 c = rw c.handed2.ensures (read-part c.before.before.before.before.before.before.before.before.before.before.before.before.before.before.before.before.before.args.w.k c.before.before.before.before.before.before.before.before.before.before.before.before.before.before.before.before.before.args.len c.before.before.before.before.before.before.before.before.before.before.before.before.before.before.before.before.before.args.m c.before.before.before.before.before.before.before.before.before.before.before.before.before.before.before.before.before.args.words.now (c.before.before.before.before.before.before.before.before.before.has_room.ensures.0 (not-false _ c.before.before.before.before.before.before.before.before.if1.false)).1 (wrote_parity c.before.before.before.before.before.before.before.before.before.before.before.before.before.before.before.before.before.args.stream c.before.before.before.before.before.before.before.before.before.before.before.before.before.before.before.before.before.args.w c.before.before.before.before.before.before.before.before.before.before.before.before.before.before.before.before.before.args.snbase (record { sequence = c.before.before.before.before.before.before.before.before.before.before.before.before.before.before.before.before.before.args.sequence; timestamp = c.before.before.before.before.before.before.before.before.before.before.before.before.before.before.before.before.before.args.timestamp; ssrc = c.before.before.before.before.before.before.before.before.before.before.before.before.before.before.before.before.before.args.ssrc })) c.before.before.before.before.before.before.before.before.before.before.before.before.before.before.before.before.before.args.media.now c.before.before.before.before.before.before.before.before.before.before.before.before.before.before.before.before.before.args.timestamps.now c.before.before.before.before.before.before.before.before.before.before.before.before.before.before.before.before.before.args.lengths.now c.before.before.before.before.before.before.before.before.before.before.before.before.before.before.before.before.before.args.marks.now c.before.before.before.before.before.before.before.before.before.before.before.before.before.before.before.before.before.args.parity.now c.before.before.before.before.before.before.before.before.before.before.before.before.before.before.before.before.before.args.out.now _ c.before.before.before.before.before.write-parity.result c.before.before.before.before.before.before.before.before.before.before.before.before.before.before.before.before.before.args.w c.before.before.before.before.before.write-parity.ensures)
+returns-2 c = rw c.handed2.ensures (read_part c.before.before.before.before.before.before.before.before.before.before.before.before.before.before.before.before.before.args.w.k c.before.before.before.before.before.before.before.before.before.before.before.before.before.before.before.before.before.args.len c.before.before.before.before.before.before.before.before.before.before.before.before.before.before.before.before.before.args.m c.before.before.before.before.before.before.before.before.before.before.before.before.before.before.before.before.before.args.words.now (c.before.before.before.before.before.before.before.before.before.has_room.ensures.0 (not-false _ c.before.before.before.before.before.before.before.before.if1.false)).1 (wrote_parity c.before.before.before.before.before.before.before.before.before.before.before.before.before.before.before.before.before.args.stream c.before.before.before.before.before.before.before.before.before.before.before.before.before.before.before.before.before.args.w c.before.before.before.before.before.before.before.before.before.before.before.before.before.before.before.before.before.args.snbase (record { sequence = c.before.before.before.before.before.before.before.before.before.before.before.before.before.before.before.before.before.args.sequence; timestamp = c.before.before.before.before.before.before.before.before.before.before.before.before.before.before.before.before.before.args.timestamp; ssrc = c.before.before.before.before.before.before.before.before.before.before.before.before.before.before.before.before.before.args.ssrc })) c.before.before.before.before.before.before.before.before.before.before.before.before.before.before.before.before.before.args.media.now c.before.before.before.before.before.before.before.before.before.before.before.before.before.before.before.before.before.args.timestamps.now c.before.before.before.before.before.before.before.before.before.before.before.before.before.before.before.before.before.args.lengths.now c.before.before.before.before.before.before.before.before.before.before.before.before.before.before.before.before.before.args.marks.now c.before.before.before.before.before.before.before.before.before.before.before.before.before.before.before.before.before.args.parity.now c.before.before.before.before.before.before.before.before.before.before.before.before.before.before.before.before.before.args.out.now _ c.before.before.before.before.before.write-parity.result c.before.before.before.before.before.before.before.before.before.before.before.before.before.before.before.before.before.args.w c.before.before.before.before.before.write-parity.ensures)
 
 pub write-parity-spec : {M : Type 1} → statement M
 write-parity-spec =

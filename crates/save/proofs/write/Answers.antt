@@ -7,7 +7,7 @@ use Prim.Native.Nat.{ℕ}
 use lib.ListN.{length}
 use Rattle.capture.specs.Calls.{Parts, numbers_fit}
 use Rattle.capture.specs.Parts.{fit, fields}
-use Rattle.save.proofs.Writes.{small_need, not-entries, not-numbers, too_short, was-written}
+use Rattle.save.proofs.Writes.{small_need, not-entries, not_numbers, too_short, was-written}
 use Rattle.save.proofs.write.Goals as goal
 
 pub returns-then-not-entries_fit : goal.returns-then-not-entries_fit
@@ -21,7 +21,7 @@ returns-then-not-numbers_fit c =
     let a = c.args in
     let x : Parts = record { base = a.base; l = a.l; d = a.d; p = a.p; n = a.n; k = a.k; ports = a.ports.now; lengths = a.lengths.now; bodies = a.bodies.now } in
     rw c.refused-then-not-numbers_fit.ensures
-    (not-numbers x a.out.now (sym c.entries_fit.ensures ∙ not-false _ (ap not c.if-not-entries_fit.false))
+    (not_numbers x a.out.now (sym c.entries_fit.ensures ∙ not-false _ (ap not c.if-not-entries_fit.false))
     (ap (λ (b : ℕ). numbers_fit a.l a.d a.p b a.n a.k) (sym c.wide.ensures.0) ∙ sym c.numbers_fit.ensures ∙ not-true _ (ap not c.if-not-numbers_fit.true)))
 
 pub overflow_mul-need : goal.overflow_mul-need

@@ -2,17 +2,17 @@
 use native.Mathlib.Omega.{arith}
 use Prim.Native.Nat.{◌+◌}
 use Rattle.schedule.specs.Schedule.{due}
-use Rattle.schedule.specs.Numbers.{cycles-small, column-small, lines-small, start_small}
+use Rattle.schedule.specs.Numbers.{cycles_small, column-small, lines-small, start_small}
 use Rattle.schedule.proofs.due_of.Goals as goal
 
 pub overflow_mul-result-in-Aligned : goal.overflow_mul-result-in-Aligned
-overflow_mul-result-in-Aligned c = omega (arith, cycles-small c.args.l c.args.d c.requires.small (c.args.cycle + 1) (omega arith))
+overflow_mul-result-in-Aligned c = omega (arith, cycles_small c.args.l c.args.d c.requires.small (c.args.cycle + 1) (omega arith))
 
 pub overflow_mul-result-in-Aligned-2 : goal.overflow_mul-result-in-Aligned-2
 overflow_mul-result-in-Aligned-2 c = omega (arith, column-small c.args.l c.args.d c.requires.small c.args.column (omega arith))
 
 pub overflow_add-result-in-Aligned : goal.overflow_add-result-in-Aligned
-overflow_add-result-in-Aligned c = omega (arith, cycles-small c.args.l c.args.d c.requires.small (c.args.cycle + 1) (omega arith), column-small c.args.l c.args.d c.requires.small c.args.column (omega arith))
+overflow_add-result-in-Aligned c = omega (arith, cycles_small c.args.l c.args.d c.requires.small (c.args.cycle + 1) (omega arith), column-small c.args.l c.args.d c.requires.small c.args.column (omega arith))
 
 pub overflow_mul-result-in-Staggered : goal.overflow_mul-result-in-Staggered
 overflow_mul-result-in-Staggered c = omega (arith, lines-small c.args.l c.args.d c.requires.small)

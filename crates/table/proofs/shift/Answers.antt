@@ -15,8 +15,8 @@ same_row s n v h e f g = rw (e, f, g)
 
 -- what has moved at the end
 
-at-r : (i r m : ℕ) (hs hs' : List Row) → i ≡ r → Shifted i m hs hs' → Shifted r m hs hs'
-at-r i r m hs hs' e s = rw (sym e) s
+at_r : (i r m : ℕ) (hs hs' : List Row) → i ≡ r → Shifted i m hs hs' → Shifted r m hs hs'
+at_r i r m hs hs' e s = rw (sym e) s
 
 pub loop-i-init : goal.loop-i-init
 loop-i-init c = let a = c.args in (omega arith, omega arith, unshifted a.m (hand a.rows.now) c.requires.1, refl)
@@ -43,4 +43,4 @@ loop-i-preserved c = let a = c.args in
     )
 
 pub returns : goal.returns
-returns c = let a = c.args in at-r c.loop-i.i a.r a.m (hand a.rows.now) _ (omega arith) c.loop-i.invariant.2
+returns c = let a = c.args in at_r c.loop-i.i a.r a.m (hand a.rows.now) _ (omega arith) c.loop-i.invariant.2

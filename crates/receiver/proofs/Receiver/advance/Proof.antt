@@ -2,7 +2,7 @@
 use mathlib.Core.Path.{refl, sym}
 use borrow.Author.Tests.{not-true, not-false}
 use Rattle.calls.specs.Move.{moved}
-use Rattle.receiver.proofs.Part.{part-words, part-long}
+use Rattle.receiver.proofs.Part.{part_words, part_long}
 use Rattle.receiver.proofs.Ways.{unmoved, move_step}
 use native.Mathlib.Omega.{arith}
 use borrow.Author.Rules.{rules}
@@ -27,10 +27,10 @@ slice-relend-prefix-advance : tie.Need-slice-relend-prefix-advance
 slice-relend-prefix-advance c = omega (arith, (c.before.before.before.before.before.before.has_room.ensures.0 (not-false _ c.before.before.before.before.before.if1.false)).1)
 
 slice-aggregate-advance : tie.Need-slice-aggregate-advance
-slice-aggregate-advance c = let a = c.before.before.before.before.before.before.before.before.before.before.before.before.before.before.before.before.before.args in sym (part-words a.words.now a.m (c.before.before.before.before.before.before.before.has_room.ensures.0 (not-false _ c.before.before.before.before.before.before.if1.false)).1)
+slice-aggregate-advance c = let a = c.before.before.before.before.before.before.before.before.before.before.before.before.before.before.before.before.before.args in sym (part_words a.words.now a.m (c.before.before.before.before.before.before.before.has_room.ensures.0 (not-false _ c.before.before.before.before.before.before.if1.false)).1)
 
 advance-requires : tie.Need-advance-requires
-advance-requires c κs = let a = c.before.before.before.before.before.before.before.before.before.before.before.before.before.before.before.before.before.before.before.args in part-long a.words.now a.m (c.before.before.before.before.before.before.before.before.before.has_room.ensures.0 (not-false _ c.before.before.before.before.before.before.before.before.if1.false)).1
+advance-requires c κs = let a = c.before.before.before.before.before.before.before.before.before.before.before.before.before.before.before.before.before.before.before.args in part_long a.words.now a.m (c.before.before.before.before.before.before.before.before.before.has_room.ensures.0 (not-false _ c.before.before.before.before.before.before.before.before.if1.false)).1
 
 handed-requires-2 : tie.Need-handed-requires-2
 handed-requires-2 c κs = search rules
@@ -64,7 +64,7 @@ returns-2 c =
     let a = c.before.before.before.before.before.before.before.before.before.before.before.before.before.before.before.before.before.before.before.before.before.before.before.before.before.before.before.before.before.before.before.before.before.before.before.before.before.before.args in
     let room = (c.before.before.before.before.before.before.before.before.before.before.before.before.before.before.before.before.before.before.before.before.before.before.before.before.before.before.before.before.has_room.ensures.0 (not-false _ c.before.before.before.before.before.before.before.before.before.before.before.before.before.before.before.before.before.before.before.before.before.before.before.before.before.before.before.if1.false)).1 in
     let r = c.before.before.before.before.before.before.before.before.before.before.before.before.before.before.before.before.before.before.advance in
-    rw c.handed2.ensures (move_step a.self.window.k a.len a.m a.words.now room a.self.window a.by a.out.now a.sizes.now refl a.media.now a.timestamps.now a.lengths.now a.marks.now a.parity.now r.result _ _ _ _ _ r.new.1.1.1.1.1.1.1.0 _ _ (omega (arith, r.auto, part-words a.words.now a.m room)) r.ensures)
+    rw c.handed2.ensures (move_step a.self.window.k a.len a.m a.words.now room a.self.window a.by a.out.now a.sizes.now refl a.media.now a.timestamps.now a.lengths.now a.marks.now a.parity.now r.result _ _ _ _ _ r.new.1.1.1.1.1.1.1.0 _ _ (omega (arith, r.auto, part_words a.words.now a.m room)) r.ensures)
 
 pub advance-spec : {M : Type 1} → statement M
 advance-spec =

@@ -5,7 +5,7 @@ use lib.ListN.{length, take}
 use borrow.Author.Tests.{not-true, not-false}
 use Rattle.table.specs.View.{hand}
 use Rattle.calls.specs.Call.{offered_media}
-use Rattle.receiver.proofs.Part.{part-words, part-long, back_more}
+use Rattle.receiver.proofs.Part.{part_words, part_long, back_more}
 use Rattle.receiver.proofs.Ways.{unlaid, plain_step}
 use native.Mathlib.Omega.{arith}
 use borrow.Author.Rules.{rules}
@@ -28,10 +28,10 @@ slice-relend-prefix-offer-media : tie.Need-slice-relend-prefix-offer-media
 slice-relend-prefix-offer-media c = omega (arith, (c.before.before.before.before.before.before.has_room.ensures.0 (not-false _ c.before.before.before.before.before.if1.false)).1)
 
 slice-aggregate-offer-media : tie.Need-slice-aggregate-offer-media
-slice-aggregate-offer-media c = sym (part-words c.before.before.before.before.before.before.before.before.before.before.before.before.before.before.before.before.args.words.now c.before.before.before.before.before.before.before.before.before.before.before.before.before.before.before.before.args.m (c.before.before.before.before.before.before.before.has_room.ensures.0 (not-false _ c.before.before.before.before.before.before.if1.false)).1)
+slice-aggregate-offer-media c = sym (part_words c.before.before.before.before.before.before.before.before.before.before.before.before.before.before.before.before.args.words.now c.before.before.before.before.before.before.before.before.before.before.before.before.before.before.before.before.args.m (c.before.before.before.before.before.before.before.has_room.ensures.0 (not-false _ c.before.before.before.before.before.before.if1.false)).1)
 
 offer-media-requires : tie.Need-offer-media-requires
-offer-media-requires c κs = (part-long c.before.before.before.before.before.before.before.before.before.before.before.before.before.before.before.before.args.words.now c.before.before.before.before.before.before.before.before.before.before.before.before.before.before.before.before.args.m (c.before.before.before.before.before.before.before.has_room.ensures.0 (not-false _ c.before.before.before.before.before.before.if1.false)).1, (c.before.before.before.before.before.before.before.has_room.ensures.0 (not-false _ c.before.before.before.before.before.before.if1.false)).0)
+offer-media-requires c κs = (part_long c.before.before.before.before.before.before.before.before.before.before.before.before.before.before.before.before.args.words.now c.before.before.before.before.before.before.before.before.before.before.before.before.before.before.before.before.args.m (c.before.before.before.before.before.before.before.has_room.ensures.0 (not-false _ c.before.before.before.before.before.before.if1.false)).1, (c.before.before.before.before.before.before.before.has_room.ensures.0 (not-false _ c.before.before.before.before.before.before.if1.false)).0)
 
 handed-requires-2 : tie.Need-handed-requires-2
 handed-requires-2 c κs = search rules
@@ -55,7 +55,7 @@ same-length-6 : tie.Need-same-length-6
 same-length-6 c = search rules
 
 returns-2 : tie.Need-returns-2
-returns-2 c = rw c.handed2.ensures (plain_step c.before.before.before.before.before.before.before.before.before.before.before.before.before.before.before.before.before.before.before.before.before.before.before.before.before.before.before.before.before.before.before.args.self.window.k c.before.before.before.before.before.before.before.before.before.before.before.before.before.before.before.before.before.before.before.before.before.before.before.before.before.before.before.before.before.before.before.args.len c.before.before.before.before.before.before.before.before.before.before.before.before.before.before.before.before.before.before.before.before.before.before.before.before.before.before.before.before.before.before.before.args.m c.before.before.before.before.before.before.before.before.before.before.before.before.before.before.before.before.before.before.before.before.before.before.before.before.before.before.before.before.before.before.before.args.words.now (c.before.before.before.before.before.before.before.before.before.before.before.before.before.before.before.before.before.before.before.before.before.before.has_room.ensures.0 (not-false _ c.before.before.before.before.before.before.before.before.before.before.before.before.before.before.before.before.before.before.before.before.before.if1.false)).1 (offered_media c.before.before.before.before.before.before.before.before.before.before.before.before.before.before.before.before.before.before.before.before.before.before.before.before.before.before.before.before.before.before.before.args.self.window c.before.before.before.before.before.before.before.before.before.before.before.before.before.before.before.before.before.before.before.before.before.before.before.before.before.before.before.before.before.before.before.args.datagram.now) c.before.before.before.before.before.before.before.before.before.before.before.before.before.before.before.before.before.before.before.before.before.before.before.before.before.before.before.before.before.before.before.args.media.now c.before.before.before.before.before.before.before.before.before.before.before.before.before.before.before.before.before.before.before.before.before.before.before.before.before.before.before.before.before.before.before.args.timestamps.now c.before.before.before.before.before.before.before.before.before.before.before.before.before.before.before.before.before.before.before.before.before.before.before.before.before.before.before.before.before.before.before.args.lengths.now c.before.before.before.before.before.before.before.before.before.before.before.before.before.before.before.before.before.before.before.before.before.before.before.before.before.before.before.before.before.before.before.args.marks.now c.before.before.before.before.before.before.before.before.before.before.before.before.before.before.before.before.before.before.before.before.before.before.before.before.before.before.before.before.before.before.before.args.parity.now c.before.before.before.before.before.before.before.before.before.before.before.before.before.before.offer-media.result _ _ _ _ _ c.before.before.before.before.before.before.before.before.before.before.before.before.before.before.offer-media.new.1.1.1.1.1.1.1.0 (omega (arith, c.before.before.before.before.before.before.before.before.before.before.before.before.before.before.offer-media.auto, part-words c.before.before.before.before.before.before.before.before.before.before.before.before.before.before.before.before.before.before.before.before.before.before.before.before.before.before.before.before.before.before.before.args.words.now c.before.before.before.before.before.before.before.before.before.before.before.before.before.before.before.before.before.before.before.before.before.before.before.before.before.before.before.before.before.before.before.args.m (c.before.before.before.before.before.before.before.before.before.before.before.before.before.before.before.before.before.before.before.before.before.before.has_room.ensures.0 (not-false _ c.before.before.before.before.before.before.before.before.before.before.before.before.before.before.before.before.before.before.before.before.before.if1.false)).1)) c.before.before.before.before.before.before.before.before.before.before.before.before.before.before.offer-media.ensures.0 c.before.before.before.before.before.before.before.before.before.before.before.before.before.before.offer-media.ensures.1)
+returns-2 c = rw c.handed2.ensures (plain_step c.before.before.before.before.before.before.before.before.before.before.before.before.before.before.before.before.before.before.before.before.before.before.before.before.before.before.before.before.before.before.before.args.self.window.k c.before.before.before.before.before.before.before.before.before.before.before.before.before.before.before.before.before.before.before.before.before.before.before.before.before.before.before.before.before.before.before.args.len c.before.before.before.before.before.before.before.before.before.before.before.before.before.before.before.before.before.before.before.before.before.before.before.before.before.before.before.before.before.before.before.args.m c.before.before.before.before.before.before.before.before.before.before.before.before.before.before.before.before.before.before.before.before.before.before.before.before.before.before.before.before.before.before.before.args.words.now (c.before.before.before.before.before.before.before.before.before.before.before.before.before.before.before.before.before.before.before.before.before.before.has_room.ensures.0 (not-false _ c.before.before.before.before.before.before.before.before.before.before.before.before.before.before.before.before.before.before.before.before.before.if1.false)).1 (offered_media c.before.before.before.before.before.before.before.before.before.before.before.before.before.before.before.before.before.before.before.before.before.before.before.before.before.before.before.before.before.before.before.args.self.window c.before.before.before.before.before.before.before.before.before.before.before.before.before.before.before.before.before.before.before.before.before.before.before.before.before.before.before.before.before.before.before.args.datagram.now) c.before.before.before.before.before.before.before.before.before.before.before.before.before.before.before.before.before.before.before.before.before.before.before.before.before.before.before.before.before.before.before.args.media.now c.before.before.before.before.before.before.before.before.before.before.before.before.before.before.before.before.before.before.before.before.before.before.before.before.before.before.before.before.before.before.before.args.timestamps.now c.before.before.before.before.before.before.before.before.before.before.before.before.before.before.before.before.before.before.before.before.before.before.before.before.before.before.before.before.before.before.before.args.lengths.now c.before.before.before.before.before.before.before.before.before.before.before.before.before.before.before.before.before.before.before.before.before.before.before.before.before.before.before.before.before.before.before.args.marks.now c.before.before.before.before.before.before.before.before.before.before.before.before.before.before.before.before.before.before.before.before.before.before.before.before.before.before.before.before.before.before.before.args.parity.now c.before.before.before.before.before.before.before.before.before.before.before.before.before.before.offer-media.result _ _ _ _ _ c.before.before.before.before.before.before.before.before.before.before.before.before.before.before.offer-media.new.1.1.1.1.1.1.1.0 (omega (arith, c.before.before.before.before.before.before.before.before.before.before.before.before.before.before.offer-media.auto, part_words c.before.before.before.before.before.before.before.before.before.before.before.before.before.before.before.before.before.before.before.before.before.before.before.before.before.before.before.before.before.before.before.args.words.now c.before.before.before.before.before.before.before.before.before.before.before.before.before.before.before.before.before.before.before.before.before.before.before.before.before.before.before.before.before.before.before.args.m (c.before.before.before.before.before.before.before.before.before.before.before.before.before.before.before.before.before.before.before.before.before.before.has_room.ensures.0 (not-false _ c.before.before.before.before.before.before.before.before.before.before.before.before.before.before.before.before.before.before.before.before.before.if1.false)).1)) c.before.before.before.before.before.before.before.before.before.before.before.before.before.before.offer-media.ensures.0 c.before.before.before.before.before.before.before.before.before.before.before.before.before.before.offer-media.ensures.1)
 
 pub media-spec : {M : Type 1} → statement M
 media-spec =

@@ -5,8 +5,8 @@ use lib.ListN.{length, take}
 use borrow.Author.Tests.{not-true, not-false}
 use Rattle.table.specs.View.{hand}
 use Rattle.calls.specs.Call.{read_out}
-use Rattle.receiver.proofs.Part.{part-words, part-long}
-use Rattle.receiver.proofs.Ways.{unread, read-part}
+use Rattle.receiver.proofs.Part.{part_words, part_long}
+use Rattle.receiver.proofs.Ways.{unread, read_part}
 use native.Mathlib.Omega.{arith}
 use borrow.Author.Rules.{rules}
 use Rattle.receiver.proofs.Receiver.read.Statement.{statement}
@@ -28,10 +28,10 @@ slice-relend-prefix-read-out : tie.Need-slice-relend-prefix-read-out
 slice-relend-prefix-read-out c = omega (arith, (c.before.has_room.ensures.0 (not-false _ c.if1.false)).1)
 
 slice-aggregate-read-out : tie.Need-slice-aggregate-read-out
-slice-aggregate-read-out c = sym (part-words c.before.before.before.before.before.before.before.before.before.before.before.args.words.now c.before.before.before.before.before.before.before.before.before.before.before.args.m (c.before.before.has_room.ensures.0 (not-false _ c.before.if1.false)).1)
+slice-aggregate-read-out c = sym (part_words c.before.before.before.before.before.before.before.before.before.before.before.args.words.now c.before.before.before.before.before.before.before.before.before.before.before.args.m (c.before.before.has_room.ensures.0 (not-false _ c.before.if1.false)).1)
 
 read-out-requires : tie.Need-read-out-requires
-read-out-requires c κs = (part-long c.before.before.before.before.before.before.before.before.before.before.before.before.args.words.now c.before.before.before.before.before.before.before.before.before.before.before.before.args.m (c.before.before.before.has_room.ensures.0 (not-false _ c.before.before.if1.false)).1)
+read-out-requires c κs = (part_long c.before.before.before.before.before.before.before.before.before.before.before.before.args.words.now c.before.before.before.before.before.before.before.before.before.before.before.before.args.m (c.before.before.before.has_room.ensures.0 (not-false _ c.before.before.if1.false)).1)
 
 handed-requires-2 : tie.Need-handed-requires-2
 handed-requires-2 c κs = search rules
@@ -43,7 +43,7 @@ same-length-2 : tie.Need-same-length-2
 same-length-2 c = search rules
 
 returns-2 : tie.Need-returns-2
-returns-2 c = rw c.handed2.ensures (read-part c.before.before.before.before.before.before.before.before.before.before.before.before.before.before.before.before.before.before.args.self.window.k c.before.before.before.before.before.before.before.before.before.before.before.before.before.before.before.before.before.before.args.len c.before.before.before.before.before.before.before.before.before.before.before.before.before.before.before.before.before.before.args.m c.before.before.before.before.before.before.before.before.before.before.before.before.before.before.before.before.before.before.args.words.now (c.before.before.before.before.before.before.before.before.before.has_room.ensures.0 (not-false _ c.before.before.before.before.before.before.before.before.if1.false)).1 (read_out c.before.before.before.before.before.before.before.before.before.before.before.before.before.before.before.before.before.before.args.self.window c.before.before.before.before.before.before.before.before.before.before.before.before.before.before.before.before.before.before.args.number) c.before.before.before.before.before.before.before.before.before.before.before.before.before.before.before.before.before.before.args.media.now c.before.before.before.before.before.before.before.before.before.before.before.before.before.before.before.before.before.before.args.timestamps.now c.before.before.before.before.before.before.before.before.before.before.before.before.before.before.before.before.before.before.args.lengths.now c.before.before.before.before.before.before.before.before.before.before.before.before.before.before.before.before.before.before.args.marks.now c.before.before.before.before.before.before.before.before.before.before.before.before.before.before.before.before.before.before.args.parity.now c.before.before.before.before.before.before.before.before.before.before.before.before.before.before.before.before.before.before.args.out.now _ c.before.before.before.before.before.read_out.result c.before.before.before.before.before.before.before.before.before.before.before.before.before.before.before.before.before.before.args.self.window c.before.before.before.before.before.read_out.ensures)
+returns-2 c = rw c.handed2.ensures (read_part c.before.before.before.before.before.before.before.before.before.before.before.before.before.before.before.before.before.before.args.self.window.k c.before.before.before.before.before.before.before.before.before.before.before.before.before.before.before.before.before.before.args.len c.before.before.before.before.before.before.before.before.before.before.before.before.before.before.before.before.before.before.args.m c.before.before.before.before.before.before.before.before.before.before.before.before.before.before.before.before.before.before.args.words.now (c.before.before.before.before.before.before.before.before.before.has_room.ensures.0 (not-false _ c.before.before.before.before.before.before.before.before.if1.false)).1 (read_out c.before.before.before.before.before.before.before.before.before.before.before.before.before.before.before.before.before.before.args.self.window c.before.before.before.before.before.before.before.before.before.before.before.before.before.before.before.before.before.before.args.number) c.before.before.before.before.before.before.before.before.before.before.before.before.before.before.before.before.before.before.args.media.now c.before.before.before.before.before.before.before.before.before.before.before.before.before.before.before.before.before.before.args.timestamps.now c.before.before.before.before.before.before.before.before.before.before.before.before.before.before.before.before.before.before.args.lengths.now c.before.before.before.before.before.before.before.before.before.before.before.before.before.before.before.before.before.before.args.marks.now c.before.before.before.before.before.before.before.before.before.before.before.before.before.before.before.before.before.before.args.parity.now c.before.before.before.before.before.before.before.before.before.before.before.before.before.before.before.before.before.before.args.out.now _ c.before.before.before.before.before.read_out.result c.before.before.before.before.before.before.before.before.before.before.before.before.before.before.before.before.before.before.args.self.window c.before.before.before.before.before.read_out.ensures)
 
 pub read_spec : {M : Type 1} → statement M
 read_spec =

@@ -13,9 +13,9 @@ use Rattle.window.proofs.Turn.{turn-all}
 use Rattle.window.proofs.Window.all_full.Invariants.{full_at}
 use Rattle.window.proofs.Window.all_full.Goals as goal
 
-so-good : (p n : ℕ) (b : Bool) → good_length p p ≡ true → eqb n (cond b p 0) ≡ true → (not b || good_length p n) ≡ true
-so-good p n true g e = rw (eqb-true n p e) g
-so-good p n false g e = refl
+so_good : (p n : ℕ) (b : Bool) → good_length p p ≡ true → eqb n (cond b p 0) ≡ true → (not b || good_length p n) ≡ true
+so_good p n true g e = rw (eqb-true n p e) g
+so_good p n false g e = refl
 
 pub overflow_cast-p : goal.overflow_cast-p
 overflow_cast-p c = omega (arith, c.requires.0.p-high)
@@ -37,4 +37,4 @@ returns c full =
     let e : l.i ≡ a.self.n = omega arith in
     let each : all (full_at a.self.p a.lengths.now a.marks.now) (up_to a.self.n) ≡ true = ap (λ n. all (full_at a.self.p a.lengths.now a.marks.now) (up_to n)) (sym e) ∙ sym l.invariant.1 ∙ full in
     true-all (λ i. not (is_present a.marks.now i) || good_length a.self.p (get_or a.lengths.now i 0)) a.self.n
-    (λ i k. so-good a.self.p (get_or a.lengths.now i 0) (is_present a.marks.now i) c.requires.0.p-good (all_true (full_at a.self.p a.lengths.now a.marks.now) a.self.n each i k))
+    (λ i k. so_good a.self.p (get_or a.lengths.now i 0) (is_present a.marks.now i) c.requires.0.p-good (all_true (full_at a.self.p a.lengths.now a.marks.now) a.self.n each i k))
