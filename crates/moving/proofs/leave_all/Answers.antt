@@ -22,9 +22,6 @@ overflow_mul-at c = let a = c.args in let l = c.loop-i in omega (arith, row_ends
 pub slice_bounds-leave-count : goal.slice_bounds-leave-count
 slice_bounds-leave-count c = let a = c.args in let l = c.loop-i in omega (arith, row_ends l.i a.by (12 + a.w.p) (length a.out.now) (omega arith) c.requires.2)
 
--- GONE slice-bounds-leave-start
--- let a = c.before.before.before.before.before.before.before.before.before.args in let l = c.before.loop in omega (arith, row_ends l.i a.by (12 + a.w.p) (length a.out.now) (omega arith) c.before.before.before.before.before.before.before.before.before.requires.2)
-
 pub leave-size-requires : goal.leave-size-requires
 leave-size-requires c =
     let a = c.args in
