@@ -75,16 +75,25 @@ pub extern "C" fn cgv_media(
 {
     let k = face::reach(records.len(), w.k);
     let mut few = face::few_words();
-    let mut many: [u32; 516];
-    let hand: &mut [u32];
-    let mut m = table::gather(records, k, &mut few, face::FEW);
+    let m = table::gather(records, k, &mut few, face::FEW);
     if face::enough(m) {
-        hand = &mut few;
-    } else {
-        many = face::all_words();
-        m = table::gather(records, k, &mut many, window::MOST_RECORDS);
-        hand = &mut many;
+        let done = face::media(
+            w,
+            datagram,
+            media,
+            timestamps,
+            lengths,
+            marks,
+            parity,
+            &mut few,
+            m,
+            records.len(),
+        );
+        table::scatter_back(records, &few, done.rows);
+        return done.reply;
     }
+    let mut many = face::all_words();
+    let m = table::gather(records, k, &mut many, window::MOST_RECORDS);
     let done = face::media(
         w,
         datagram,
@@ -93,11 +102,11 @@ pub extern "C" fn cgv_media(
         lengths,
         marks,
         parity,
-        hand,
+        &mut many,
         m,
         records.len(),
     );
-    table::scatter_back(records, hand, done.rows);
+    table::scatter_back(records, &many, done.rows);
     done.reply
 }
 
@@ -118,16 +127,25 @@ pub extern "C" fn cgv_column(
 {
     let k = face::reach(records.len(), w.k);
     let mut few = face::few_words();
-    let mut many: [u32; 516];
-    let hand: &mut [u32];
-    let mut m = table::gather(records, k, &mut few, face::FEW);
+    let m = table::gather(records, k, &mut few, face::FEW);
     if face::enough(m) {
-        hand = &mut few;
-    } else {
-        many = face::all_words();
-        m = table::gather(records, k, &mut many, window::MOST_RECORDS);
-        hand = &mut many;
+        let done = face::column(
+            w,
+            datagram,
+            media,
+            timestamps,
+            lengths,
+            marks,
+            parity,
+            &mut few,
+            m,
+            records.len(),
+        );
+        table::scatter_back(records, &few, done.rows);
+        return done.reply;
     }
+    let mut many = face::all_words();
+    let m = table::gather(records, k, &mut many, window::MOST_RECORDS);
     let done = face::column(
         w,
         datagram,
@@ -136,11 +154,11 @@ pub extern "C" fn cgv_column(
         lengths,
         marks,
         parity,
-        hand,
+        &mut many,
         m,
         records.len(),
     );
-    table::scatter_back(records, hand, done.rows);
+    table::scatter_back(records, &many, done.rows);
     done.reply
 }
 
@@ -161,16 +179,25 @@ pub extern "C" fn cgv_row(
 {
     let k = face::reach(records.len(), w.k);
     let mut few = face::few_words();
-    let mut many: [u32; 516];
-    let hand: &mut [u32];
-    let mut m = table::gather(records, k, &mut few, face::FEW);
+    let m = table::gather(records, k, &mut few, face::FEW);
     if face::enough(m) {
-        hand = &mut few;
-    } else {
-        many = face::all_words();
-        m = table::gather(records, k, &mut many, window::MOST_RECORDS);
-        hand = &mut many;
+        let done = face::row(
+            w,
+            datagram,
+            media,
+            timestamps,
+            lengths,
+            marks,
+            parity,
+            &mut few,
+            m,
+            records.len(),
+        );
+        table::scatter_back(records, &few, done.rows);
+        return done.reply;
     }
+    let mut many = face::all_words();
+    let m = table::gather(records, k, &mut many, window::MOST_RECORDS);
     let done = face::row(
         w,
         datagram,
@@ -179,11 +206,11 @@ pub extern "C" fn cgv_row(
         lengths,
         marks,
         parity,
-        hand,
+        &mut many,
         m,
         records.len(),
     );
-    table::scatter_back(records, hand, done.rows);
+    table::scatter_back(records, &many, done.rows);
     done.reply
 }
 
@@ -244,16 +271,24 @@ pub extern "C" fn cgv_read(
 {
     let k = face::reach(records.len(), w.k);
     let mut few = face::few_words();
-    let mut many: [u32; 516];
-    let hand: &mut [u32];
-    let mut m = table::gather(records, k, &mut few, face::FEW);
+    let m = table::gather(records, k, &mut few, face::FEW);
     if face::enough(m) {
-        hand = &mut few;
-    } else {
-        many = face::all_words();
-        m = table::gather(records, k, &mut many, window::MOST_RECORDS);
-        hand = &mut many;
+        return face::read(
+            w,
+            number,
+            media,
+            timestamps,
+            lengths,
+            marks,
+            parity,
+            &mut few,
+            m,
+            records.len(),
+            out,
+        );
     }
+    let mut many = face::all_words();
+    let m = table::gather(records, k, &mut many, window::MOST_RECORDS);
     face::read(
         w,
         number,
@@ -262,7 +297,7 @@ pub extern "C" fn cgv_read(
         lengths,
         marks,
         parity,
-        hand,
+        &mut many,
         m,
         records.len(),
         out,
@@ -290,16 +325,27 @@ pub extern "C" fn cgv_write_column(
 {
     let k = face::reach(records.len(), w.k);
     let mut few = face::few_words();
-    let mut many: [u32; 516];
-    let hand: &mut [u32];
-    let mut m = table::gather(records, k, &mut few, face::FEW);
+    let m = table::gather(records, k, &mut few, face::FEW);
     if face::enough(m) {
-        hand = &mut few;
-    } else {
-        many = face::all_words();
-        m = table::gather(records, k, &mut many, window::MOST_RECORDS);
-        hand = &mut many;
+        return face::write_column(
+            w,
+            snbase,
+            sequence,
+            timestamp,
+            ssrc,
+            media,
+            timestamps,
+            lengths,
+            marks,
+            parity,
+            &mut few,
+            m,
+            records.len(),
+            out,
+        );
     }
+    let mut many = face::all_words();
+    let m = table::gather(records, k, &mut many, window::MOST_RECORDS);
     face::write_column(
         w,
         snbase,
@@ -311,7 +357,7 @@ pub extern "C" fn cgv_write_column(
         lengths,
         marks,
         parity,
-        hand,
+        &mut many,
         m,
         records.len(),
         out,
@@ -339,16 +385,27 @@ pub extern "C" fn cgv_write_row(
 {
     let k = face::reach(records.len(), w.k);
     let mut few = face::few_words();
-    let mut many: [u32; 516];
-    let hand: &mut [u32];
-    let mut m = table::gather(records, k, &mut few, face::FEW);
+    let m = table::gather(records, k, &mut few, face::FEW);
     if face::enough(m) {
-        hand = &mut few;
-    } else {
-        many = face::all_words();
-        m = table::gather(records, k, &mut many, window::MOST_RECORDS);
-        hand = &mut many;
+        return face::write_row(
+            w,
+            snbase,
+            sequence,
+            timestamp,
+            ssrc,
+            media,
+            timestamps,
+            lengths,
+            marks,
+            parity,
+            &mut few,
+            m,
+            records.len(),
+            out,
+        );
     }
+    let mut many = face::all_words();
+    let m = table::gather(records, k, &mut many, window::MOST_RECORDS);
     face::write_row(
         w,
         snbase,
@@ -360,7 +417,7 @@ pub extern "C" fn cgv_write_row(
         lengths,
         marks,
         parity,
-        hand,
+        &mut many,
         m,
         records.len(),
         out,
