@@ -9,7 +9,7 @@ use window::Record;
 
 // The parts have one element more than 16 positions and 8 records of 188 bytes need; of the parity payloads all but one of
 // the bytes that 9 would need, and so of the media payloads, unless they are lent whole.
-#[derive(Drop)]
+#[derive(Clone, Copy)]
 pub struct Bench {
     pub whole: bool,
     pub media: [u8; 3196],
@@ -23,7 +23,7 @@ pub struct Bench {
 }
 
 // What was answered, and the bytes lent for output after it.
-#[derive(Drop)]
+#[derive(Clone, Copy)]
 pub struct Wrote {
     pub answer: Answer,
     pub out: [u8; 404],
@@ -54,11 +54,9 @@ fn filled_rows(rows: [u32; 40], count: usize, mark: u8, other: u8) -> [u32; 40]
     requires { count ≤ 9 }
 {
     let mut words = rows;
-    let mut i = 0;
-    while i < count {
+    for i in 0..count {
         let next = filled_row(words, i, mark, other);
         words = next;
-        i += 1;
     }
     words
 }

@@ -1,229 +1,220 @@
-// What a step prints: a line, with what it was and what was answered.
+// What a step prints: a line, with what it was and what was answered. A write that fails is handed on as it is.
 use super::script;
 use answer::Answer;
-use libc::STDOUT_FILENO;
+use std::io;
 use window::Record;
 
 // Words.
-pub fn text(words: &[u8]) {
-    io::write_all(STDOUT_FILENO, words);
+pub fn text(rt: &impl Print, words: &[u8]) -> io::Result<()> {
+    rt.write_all(words)
 }
 
 // The end of a line.
-pub fn end() {
-    text(b"\n");
+pub fn end(rt: &impl Print) -> io::Result<()> {
+    text(rt, b"\n")
 }
 
 // A number.
-pub fn decimal(x: usize) {
-    io::print_decimal(STDOUT_FILENO, x as u64);
+pub fn decimal(rt: &impl Print, x: usize) -> io::Result<()> {
+    print!(rt; "{x}")
 }
 
 // A word, and a number behind it.
-pub fn named(word: &[u8], x: usize) {
-    text(word);
-    decimal(x);
+pub fn named(rt: &impl Print, word: &[u8], x: usize) -> io::Result<()> {
+    text(rt, word)?;
+    decimal(rt, x)
 }
 
 // A mark.
-fn digit(x: u8) {
-    decimal(x as usize);
+fn digit(rt: &impl Print, x: u8) -> io::Result<()> {
+    decimal(rt, x as usize)
 }
 
 // A byte, with a space before it.
-fn hex(x: u8) {
-    text(b" ");
-    io::print_hex(STDOUT_FILENO, x as u64, 2);
+fn hex(rt: &impl Print, x: u8) -> io::Result<()> {
+    print!(rt; " {x:02x}")
 }
 
 // A number of a group.
-fn member(number: u16) {
-    named(b"  ", number as usize);
+fn member(rt: &impl Print, number: u16) -> io::Result<()> {
+    named(rt, b"  ", number as usize)
 }
 
 // The first bytes in hexadecimal.
-pub fn header(bytes: &[u8], count: usize) {
-    let mut i = 0;
-    while i < count {
-        hex(rtp::byte_at(bytes, i));
-        i += 1;
+pub fn header(rt: &impl Print, bytes: &[u8], count: usize) -> io::Result<()> {
+    for i in 0..count {
+        hex(rt, rtp::byte_at(bytes, i))?;
     }
+    Ok(())
 }
 
 // Marks side by side.
-fn row_of(marks: &[u8]) {
-    let mut i = 0;
-    while i < marks.len() {
-        digit(marks[i]);
-        i += 1;
+fn row_of(rt: &impl Print, marks: &[u8]) -> io::Result<()> {
+    for mark in marks {
+        digit(rt, *mark)?;
     }
+    Ok(())
 }
 
 // The in-use mark of a record.
-fn in_use(v: Record) {
-    decimal(v.in_use as usize);
+fn in_use(rt: &impl Print, v: Record) -> io::Result<()> {
+    decimal(rt, v.in_use as usize)
 }
 
 // The in-use marks of nine rows side by side.
-fn uses_of(words: [u32; 40]) {
-    let mut i = 0;
-    while i < 9 {
-        in_use(table::record_at(&words, i));
-        i += 1;
+fn uses_of(rt: &impl Print, words: [u32; 40]) -> io::Result<()> {
+    for i in 0..9 {
+        in_use(rt, table::record_at(&words, i))?;
     }
+    Ok(())
 }
 
 // The marks of the positions and of the records.
-pub fn marks(present: &[u8], words: [u32; 40]) {
-    text(b"  present ");
-    row_of(present);
-    text(b", in use ");
-    uses_of(words);
-    end();
+pub fn marks(rt: &impl Print, present: &[u8], words: [u32; 40]) -> io::Result<()> {
+    text(rt, b"  present ")?;
+    row_of(rt, present)?;
+    text(rt, b", in use ")?;
+    uses_of(rt, words)?;
+    end(rt)
 }
 
 // A length, with a space before it.
-fn length(x: u16) {
-    named(b" ", x as usize);
+fn length(rt: &impl Print, x: u16) -> io::Result<()> {
+    named(rt, b" ", x as usize)
 }
 
 // Lengths one after the other.
-fn lengths_of(kept: &[u16]) {
-    let mut i = 0;
-    while i < kept.len() {
-        length(kept[i]);
-        i += 1;
+fn lengths_of(rt: &impl Print, kept: &[u16]) -> io::Result<()> {
+    for size in kept {
+        length(rt, *size)?;
     }
+    Ok(())
 }
 
 // The length of the payload of a record.
-fn payload_length(v: Record) {
-    length(v.payload_length);
+fn payload_length(rt: &impl Print, v: Record) -> io::Result<()> {
+    length(rt, v.payload_length)
 }
 
 // The lengths of the payloads of nine rows one after the other.
-fn held_of(words: [u32; 40]) {
-    let mut i = 0;
-    while i < 9 {
-        payload_length(table::record_at(&words, i));
-        i += 1;
+fn held_of(rt: &impl Print, words: [u32; 40]) -> io::Result<()> {
+    for i in 0..9 {
+        payload_length(rt, table::record_at(&words, i))?;
     }
+    Ok(())
 }
 
 // The lengths of the positions and of the records.
-pub fn lengths(kept: &[u16], words: [u32; 40]) {
-    text(b"  lengths");
-    lengths_of(kept);
-    text(b", of parity");
-    held_of(words);
-    end();
+pub fn lengths(rt: &impl Print, kept: &[u16], words: [u32; 40]) -> io::Result<()> {
+    text(rt, b"  lengths")?;
+    lengths_of(rt, kept)?;
+    text(rt, b", of parity")?;
+    held_of(rt, words)?;
+    end(rt)
 }
 
 // What a call is named.
-fn call_name(kind: u64) {
+fn call_name(rt: &impl Print, kind: u64) -> io::Result<()> {
     match kind {
-        script::MEDIA => text(b"media"),
-        script::COLUMN => text(b"column"),
-        script::ROW => text(b"row"),
-        script::READ => text(b"read"),
-        script::WRITE_COLUMN => text(b"write column"),
-        _ => text(b"write row"),
+        script::MEDIA => text(rt, b"media"),
+        script::COLUMN => text(rt, b"column"),
+        script::ROW => text(rt, b"row"),
+        script::READ => text(rt, b"read"),
+        script::WRITE_COLUMN => text(rt, b"write column"),
+        _ => text(rt, b"write row"),
     }
 }
 
 // What is set or made up.
-fn set_name(kind: u64) {
+fn set_name(rt: &impl Print, kind: u64) -> io::Result<()> {
     match kind {
-        script::MARK => text(b"set present mark"),
-        script::IN_USE => text(b"set in-use mark"),
-        script::STREAM => text(b"set stream"),
-        script::SNBASE => text(b"set SNBase"),
-        script::KEPT_LENGTH => text(b"set length"),
-        script::HELD_RECOVERY => text(b"set length recovery"),
-        script::HELD_LENGTH => text(b"set parity length"),
-        script::PAYLOAD => text(b"set payload byte"),
-        script::PARITY => text(b"set parity byte"),
-        script::VALUE_L => text(b"make up L"),
-        script::VALUE_P => text(b"make up P"),
-        script::VALUE_N => text(b"make up n"),
-        script::VALUE_K => text(b"make up K"),
-        _ => text(b"make up packets present"),
+        script::MARK => text(rt, b"set present mark"),
+        script::IN_USE => text(rt, b"set in-use mark"),
+        script::STREAM => text(rt, b"set stream"),
+        script::SNBASE => text(rt, b"set SNBase"),
+        script::KEPT_LENGTH => text(rt, b"set length"),
+        script::HELD_RECOVERY => text(rt, b"set length recovery"),
+        script::HELD_LENGTH => text(rt, b"set parity length"),
+        script::PAYLOAD => text(rt, b"set payload byte"),
+        script::PARITY => text(rt, b"set parity byte"),
+        script::VALUE_L => text(rt, b"make up L"),
+        script::VALUE_P => text(rt, b"make up P"),
+        script::VALUE_N => text(rt, b"make up n"),
+        script::VALUE_K => text(rt, b"make up K"),
+        _ => text(rt, b"make up packets present"),
     }
 }
 
 // What differs, before its value.
-fn what_name(what: u64) {
+fn what_name(rt: &impl Print, what: u64) -> io::Result<()> {
     match what {
-        script::LENGTH => text(b", of length "),
-        script::BARE => text(b", zeros behind the RTP header, of length "),
-        script::ZEROS => text(b", zeros, of length "),
-        script::MEMBERS => text(b", of members "),
-        script::RECOVERS => text(b", length recovery "),
-        _ => text(b", output bytes lent "),
+        script::LENGTH => text(rt, b", of length "),
+        script::BARE => text(rt, b", zeros behind the RTP header, of length "),
+        script::ZEROS => text(rt, b", zeros, of length "),
+        script::MEMBERS => text(rt, b", of members "),
+        script::RECOVERS => text(rt, b", length recovery "),
+        _ => text(rt, b", output bytes lent "),
     }
 }
 
 // What differs in a step.
-fn difference(what: u64, value: u16) {
+fn difference(rt: &impl Print, what: u64, value: u16) -> io::Result<()> {
     let byte = what / script::DIFFERS;
     if byte == 0 {
-        return;
+        return Ok(());
     }
     if byte <= 592 {
-        named(b", byte ", byte as usize - 1);
-        named(b" is ", value as usize);
-        return;
+        named(rt, b", byte ", byte as usize - 1)?;
+        return named(rt, b" is ", value as usize);
     }
     if (script::ON_MEDIA_PORT <= what) & (what <= script::ON_ROW_PORT) {
-        text(b", on port ");
-        call_name(script::port_of(script::MEDIA, what));
-        return;
+        text(rt, b", on port ")?;
+        return call_name(rt, script::port_of(script::MEDIA, what));
     }
-    what_name(what);
-    decimal(value as usize);
+    what_name(rt, what)?;
+    decimal(rt, value as usize)
 }
 
 // What a call is.
-pub fn call(kind: u64, number: u16, what: u64, value: u16) {
-    text(b"  ");
-    call_name(kind);
-    named(b" ", number as usize);
-    difference(what, value);
+pub fn call(rt: &impl Print, kind: u64, number: u16, what: u64, value: u16) -> io::Result<()> {
+    text(rt, b"  ")?;
+    call_name(rt, kind)?;
+    named(rt, b" ", number as usize)?;
+    difference(rt, what, value)
 }
 
 // What is set from outside.
-pub fn set(kind: u64, number: u16, value: u16) {
-    text(b"  ");
-    set_name(kind);
+pub fn set(rt: &impl Print, kind: u64, number: u16, value: u16) -> io::Result<()> {
+    text(rt, b"  ")?;
+    set_name(rt, kind)?;
     if kind < script::VALUE_L {
-        named(b" ", number as usize);
+        named(rt, b" ", number as usize)?;
     }
-    named(b" to ", value as usize);
-    end();
+    named(rt, b" to ", value as usize)?;
+    end(rt)
 }
 
 // How many parity packets were spoilt, where any were.
-fn spoilt(count: usize) {
+fn spoilt(rt: &impl Print, count: usize) -> io::Result<()> {
     if 0 < count {
-        named(b", spoilt ", count);
+        return named(rt, b", spoilt ", count);
     }
+    Ok(())
 }
 
 // What was answered.
-pub fn answer(a: Answer) {
+pub fn answer(rt: &impl Print, a: Answer) -> io::Result<()> {
     match a {
-        Answer::Done(n, _) => named(b": done ", n),
-        Answer::Refused(k) => named(b": refused ", k as usize),
+        Answer::Done(n, _) => named(rt, b": done ", n)?,
+        Answer::Refused(k) => named(rt, b": refused ", k as usize)?,
     }
-    spoilt(answer::spoilt(a));
+    spoilt(rt, answer::spoilt(a))
 }
 
 // The numbers of a group on a line.
-pub fn group(snbase: u16, offset: u8, na: u8) {
-    let mut j: u8 = 0;
-    while j < na {
-        member(sequence::member_at(snbase, offset, j));
-        j += 1;
+pub fn group(rt: &impl Print, snbase: u16, offset: u8, na: u8) -> io::Result<()> {
+    for j in 0..na {
+        member(rt, sequence::member_at(snbase, offset, j))?;
     }
-    end();
+    end(rt)
 }

@@ -26,10 +26,8 @@ fn size(p: usize, number: u16) -> u16
 // The timestamps of a group, xored.
 fn stamps(start: u16, offset: u8, na: u8) -> u32 {
     let mut sum: u32 = 0;
-    let mut j: u8 = 0;
-    while j < na {
+    for j in 0..na {
         sum = sum ^ stamp(sequence::member_at(start, offset, j));
-        j += 1;
     }
     sum
 }
@@ -37,10 +35,8 @@ fn stamps(start: u16, offset: u8, na: u8) -> u32 {
 // The lengths of a group, xored.
 fn lengths(p: usize, start: u16, offset: u8, na: u8) -> u16 {
     let mut sum: u16 = 0;
-    let mut j: u8 = 0;
-    while j < na {
+    for j in 0..na {
         sum = sum ^ size(p, sequence::member_at(start, offset, j));
-        j += 1;
     }
     sum
 }
@@ -58,10 +54,8 @@ fn longest(p: usize, start: u16, offset: u8, na: u8) -> u16
     ensures { result ≤ 376 }
 {
     let mut most: u16 = 0;
-    let mut j: u8 = 0;
-    while j < na {
+    for j in 0..na {
         most = longer(most, size(p, sequence::member_at(start, offset, j)));
-        j += 1;
     }
     most
 }
@@ -73,11 +67,11 @@ fn joined(g: [u8; 592], from: usize, end: usize, number: u16) -> [u8; 592]
 {
     let mut out = g;
     let n = rtp::low(number);
-    let mut value = std::num::wrapping_add_u8(n, n);
+    let mut value = n.wrapping_add(n);
     let mut i = from;
     while i < end {
         out[i] = out[i] ^ value;
-        value = std::num::wrapping_add_u8(value, 11);
+        value = value.wrapping_add(11);
         i += 11;
     }
     out
@@ -88,12 +82,10 @@ fn filled(g: [u8; 592], headers: usize, p: usize, start: u16, offset: u8, na: u8
     requires { headers ≤ 28 }
 {
     let mut out = g;
-    let mut j: u8 = 0;
-    while j < na {
+    for j in 0..na {
         let number = sequence::member_at(start, offset, j);
         let next = joined(out, headers, headers + size(p, number) as usize, number);
         out = next;
-        j += 1;
     }
     out
 }

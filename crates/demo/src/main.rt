@@ -6,8 +6,8 @@ mod side;
 ghost use Rattle.std.specs.Prelude.{◌≤◌};
 
 use answer::Answer;
-use libc::STDOUT_FILENO;
 use side::Side;
+use std::io;
 
 // ---- what is sent, and what is lost
 
@@ -41,13 +41,11 @@ fn media_packet(i: u8) -> [u8; 200] {
         900000 + i as u32 * 1234,
         side::SOURCE,
     );
-    let step = std::num::wrapping_add_u8(i, std::num::wrapping_add_u8(i, 1));
+    let step = i.wrapping_add(i.wrapping_add(1));
     let mut value: u8 = 71;
-    let mut j = 12;
-    while j < 200 {
+    for j in 12..200 {
         packet[j] = value;
-        value = std::num::wrapping_add_u8(value, step);
-        j += 1;
+        value = value.wrapping_add(step);
     }
     packet
 }
@@ -66,58 +64,56 @@ fn deliver_all(to: Side, from: u8, lossy: bool) -> Side
     requires { from ≤ 64 }
 {
     let mut v = to;
-    let mut i: u8 = 16;
-    while 0 < i {
-        i -= 1;
-        let next = deliver(v, from + i, lossy);
-        v = next;
+    for i in (0..16).rev() {
+        v = deliver(v, from + i, lossy);
     }
     v
 }
 
 // ---- the grid on the screen
 
-fn pad(number: u16, than: u16) {
+fn pad(rt: &impl Print, number: u16, than: u16) -> io::Result<()> {
     if number < than {
-        io::write_all(STDOUT_FILENO, b" ");
+        print!(rt; " ")?;
     }
+    Ok(())
 }
 
 // A number in five places.
-fn print_number(number: u16) {
-    pad(number, 10000);
-    pad(number, 1000);
-    pad(number, 100);
-    pad(number, 10);
-    io::print_decimal(STDOUT_FILENO, number as u64);
+fn print_number(rt: &impl Print, number: u16) -> io::Result<()> {
+    pad(rt, number, 10000)?;
+    pad(rt, number, 1000)?;
+    pad(rt, number, 100)?;
+    pad(rt, number, 10)?;
+    print!(rt; "{number}")
 }
 
-fn print_mark(i: u8, mark: u8) {
+fn print_mark(rt: &impl Print, i: u8, mark: u8) -> io::Result<()> {
     if mark == 0 {
-        io::write_all(STDOUT_FILENO, b" .");
+        print!(rt; " .")
     } else if lost(i) {
-        io::write_all(STDOUT_FILENO, b" *");
+        print!(rt; " *")
     } else {
-        io::write_all(STDOUT_FILENO, b" +");
+        print!(rt; " +")
     }
 }
 
 // A position, with the end of its line behind the last of a row.
-fn print_cell(i: u8, mark: u8) {
-    io::write_all(STDOUT_FILENO, b"  ");
-    print_number(number_of(i));
-    print_mark(i, mark);
+fn print_cell(rt: &impl Print, i: u8, mark: u8) -> io::Result<()> {
+    print!(rt; "  ")?;
+    print_number(rt, number_of(i))?;
+    print_mark(rt, i, mark)?;
     if i % 4 == 3 {
-        io::write_all(STDOUT_FILENO, b"\n");
+        println!(rt)?;
     }
+    Ok(())
 }
 
-fn print_grid(marks: &[u8]) {
-    let mut i: u8 = 0;
-    while i < 16 {
-        print_cell(i, rtp::byte_at(marks, i as usize));
-        i += 1;
+fn print_grid(rt: &impl Print, marks: &[u8]) -> io::Result<()> {
+    for i in 0..16 {
+        print_cell(rt, i, rtp::byte_at(marks, i as usize))?;
     }
+    Ok(())
 }
 
 // ---- parity
@@ -131,23 +127,23 @@ fn start_of(stream: u8, j: u8) -> u16 {
     }
 }
 
-fn print_name(stream: u8) {
+fn print_name(rt: &impl Print, stream: u8) -> io::Result<()> {
     if stream == 0 {
-        io::write_all(STDOUT_FILENO, b"  column ");
+        print!(rt; "  column ")
     } else {
-        io::write_all(STDOUT_FILENO, b"  row    ");
+        print!(rt; "  row    ")
     }
 }
 
 // What a parity packet was answered.
-fn print_answer(stream: u8, start: u16, a: Answer) {
-    print_name(stream);
-    print_number(start);
-    io::write_all(STDOUT_FILENO, b": answer ");
-    io::print_decimal(STDOUT_FILENO, answer::number(a) as u64);
-    io::write_all(STDOUT_FILENO, b", rebuilt ");
-    io::print_decimal(STDOUT_FILENO, answer::count(a) as u64);
-    io::write_all(STDOUT_FILENO, b"\n");
+fn print_answer(rt: &impl Print, stream: u8, start: u16, a: Answer) -> io::Result<()> {
+    print_name(rt, stream)?;
+    print_number(rt, start)?;
+    println!(rt;
+        ": answer {}, rebuilt {}",
+        answer::number(a),
+        answer::count(a)
+    )
 }
 
 // The parity packet of a column or a row, as the sender writes it.
@@ -159,32 +155,29 @@ fn parity_packet(sender: Side, stream: u8, j: u8) -> [u8; 216] {
 }
 
 // A parity packet is offered, and its answer printed.
-fn offer_one(to: Side, stream: u8, start: u16, packet: &[u8]) -> Side {
+fn offer_one(rt: &impl Print, to: Side, stream: u8, start: u16, packet: &[u8]) -> io::Result<Side> {
     let after = side::offer(to, stream, packet);
     let a = after.answer;
-    print_answer(stream, start, a);
-    after
+    print_answer(rt, stream, start, a)?;
+    Ok(after)
 }
 
 // The four columns or the four rows go from the sender to the receiver.
-fn pass_parity(sender: Side, to: Side, stream: u8) -> Side {
+fn pass_parity(rt: &impl Print, sender: Side, to: Side, stream: u8) -> io::Result<Side> {
     let mut v = to;
-    let mut j: u8 = 0;
-    while j < 4 {
+    for j in 0..4 {
         let packet = parity_packet(sender, stream, j);
-        let next = offer_one(v, stream, start_of(stream, j), &packet);
-        v = next;
-        j += 1;
+        v = offer_one(rt, v, stream, start_of(stream, j), &packet)?;
     }
-    v
+    Ok(v)
 }
 
 // A column that starts so late that its last member, 10, lies outside the window.
-fn offer_outside(to: Side) -> Side {
+fn offer_outside(rt: &impl Print, to: Side) -> io::Result<Side> {
     let mut packet = [0u8; 216];
     rtp::write_rtp(&mut packet, rtp::PARITY_TYPE, 8, 0, 0);
     rtp::write_fec(&mut packet, 65534, 0, 0, 0, rtp::COLUMN, 4, 4);
-    offer_one(to, side::COLUMN, 65534, &packet)
+    offer_one(rt, to, side::COLUMN, 65534, &packet)
 }
 
 // ---- whether the rebuilt packets are the sent ones
@@ -199,10 +192,8 @@ fn one_if(is: bool) -> u8
 // How many of the lost packets are there now.
 fn count_rebuilt(marks: &[u8]) -> u8 {
     let mut rebuilt: u8 = 0;
-    let mut i: u8 = 0;
-    while i < 16 {
+    for i in 0..16 {
         rebuilt += one_if(lost(i) & (rtp::byte_at(marks, i as usize) == 1));
-        i += 1;
     }
     rebuilt
 }
@@ -217,20 +208,14 @@ fn same_packet(sender: Side, to: Side, i: u8) -> bool {
 // How many of the lost packets are there again, and the same.
 fn count_equal(sender: Side, to: Side) -> u8 {
     let mut equal: u8 = 0;
-    let mut i: u8 = 0;
-    while i < 16 {
+    for i in 0..16 {
         equal += one_if(lost(i) & same_packet(sender, to, i));
-        i += 1;
     }
     equal
 }
 
-fn print_count(equal: u8, rebuilt: u8) {
-    io::write_all(STDOUT_FILENO, b"\nrebuilt packets equal to the sent ones: ");
-    io::print_decimal(STDOUT_FILENO, equal as u64);
-    io::write_all(STDOUT_FILENO, b" of ");
-    io::print_decimal(STDOUT_FILENO, rebuilt as u64);
-    io::write_all(STDOUT_FILENO, b"\n");
+fn print_count(rt: &impl Print, equal: u8, rebuilt: u8) -> io::Result<()> {
+    println!(rt; "\nrebuilt packets equal to the sent ones: {equal} of {rebuilt}")
 }
 
 // ---- the feed goes on, and the window moves
@@ -241,10 +226,8 @@ fn count_lost(from: u8) -> u8
     ensures { result ≤ 16 }
 {
     let mut missing: u8 = 0;
-    let mut i: u8 = 0;
-    while i < 16 {
+    for i in 0..16 {
         missing += one_if(lost(from + i));
-        i += 1;
     }
     missing
 }
@@ -264,11 +247,8 @@ fn pass_matrix(sender: Side, to: Side, from: u8, stream: u8, step: u8) -> Side
     requires { (from ≤ 64) × (step ≤ 4) }
 {
     let mut v = to;
-    let mut j: u8 = 0;
-    while j < 4 {
-        let next = pass_one(sender, v, stream, number_of(from + j * step));
-        v = next;
-        j += 1;
+    for j in 0..4 {
+        v = pass_one(sender, v, stream, number_of(from + j * step));
     }
     v
 }
@@ -279,108 +259,86 @@ fn less(x: u64, y: u64) -> u64 {
 }
 
 // What became of a matrix: how many packets were lost, how many of these were rebuilt, and how many were missing when they left.
-fn print_matrix(from: u8, missing: u8, left: u64) {
-    io::write_all(STDOUT_FILENO, b"  matrix from ");
-    print_number(number_of(from));
-    io::write_all(STDOUT_FILENO, b": lost ");
-    io::print_decimal(STDOUT_FILENO, missing as u64);
-    io::write_all(STDOUT_FILENO, b", rebuilt ");
-    io::print_decimal(STDOUT_FILENO, less(left, less(16, missing as u64)));
-    io::write_all(STDOUT_FILENO, b", given up ");
-    io::print_decimal(STDOUT_FILENO, less(16, left));
-    io::write_all(STDOUT_FILENO, b"\n");
+fn print_matrix(rt: &impl Print, from: u8, missing: u8, left: u64) -> io::Result<()> {
+    print!(rt; "  matrix from ")?;
+    print_number(rt, number_of(from))?;
+    let rebuilt = less(left, less(16, missing as u64));
+    let given_up = less(16, left);
+    println!(rt; ": lost {missing}, rebuilt {rebuilt}, given up {given_up}")
 }
 
 // The receiver's window moves on by the matrix that begins with packet `from`.
-fn move_on(to: Side, from: u8) -> Side
+fn move_on(rt: &impl Print, to: Side, from: u8) -> io::Result<Side>
     requires { from ≤ 64 }
 {
     let after = side::advance(to);
     let a = after.answer;
-    print_matrix(from, count_lost(from), answer::count(a) as u64);
-    after
+    print_matrix(rt, from, count_lost(from), answer::count(a) as u64)?;
+    Ok(after)
 }
 
 // Both windows move on by the matrix that begins with packet `from`, and the next one is sent, lost in part, and its parity after it.
-fn next_matrix(sender: Side, to: Side, from: u8) -> Side
+fn next_matrix(rt: &impl Print, sender: Side, to: Side, from: u8) -> io::Result<Side>
     requires { from ≤ 48 }
 {
-    let moved = move_on(to, from);
+    let moved = move_on(rt, to, from)?;
     let held = deliver_all(moved, from + 16, true);
     let columns = pass_matrix(sender, held, from + 16, side::COLUMN, 1);
-    pass_matrix(sender, columns, from + 16, side::ROW, 4)
+    Ok(pass_matrix(sender, columns, from + 16, side::ROW, 4))
 }
 
 // Four matrices leave, one after the other.
-fn go_on(sender: Side, to: Side) {
+fn go_on(rt: &impl Print, sender: Side, to: Side) -> io::Result<()> {
     let mut s = sender;
     let mut v = to;
     let mut from: u8 = 0;
     while from < 64 {
-        let t = deliver_all(side::advance(s), from + 16, false);
-        s = t;
-        let next = next_matrix(s, v, from);
-        v = next;
+        s = deliver_all(side::advance(s), from + 16, false);
+        v = next_matrix(rt, s, v, from)?;
         from += 16;
     }
+    Ok(())
 }
 
 // ---- the night
 
-fn print_title() {
-    io::write_all(
-        STDOUT_FILENO,
-        b"The night at ten past three: 4 columns, 4 rows, 16 packets from 65530 on, across 65535 to 0\n",
-    );
-    io::write_all(
-        STDOUT_FILENO,
-        b"Lost on the way: a burst of four (65534 65535 0 1) and two alone (65532 and 7)\n",
-    );
-    io::write_all(STDOUT_FILENO, b"  + received   * rebuilt   . lost\n");
+fn print_title(rt: &impl Print) -> io::Result<()> {
+    println!(rt;
+        "The night at ten past three: 4 columns, 4 rows, 16 packets from 65530 on, across 65535 to 0"
+    )?;
+    println!(rt; "Lost on the way: a burst of four (65534 65535 0 1) and two alone (65532 and 7)")?;
+    println!(rt; "  + received   * rebuilt   . lost")
 }
 
-fn print_rounds() {
-    io::write_all(
-        STDOUT_FILENO,
-        b"Columns 65531 and 65532 each lack two, and wait: row 65530 rebuilds 65532, and column 65532 then 0;\n",
-    );
-    io::write_all(
-        STDOUT_FILENO,
-        b"row 65534 rebuilds 65535, and column 65531 then 7\n",
-    );
+fn print_rounds(rt: &impl Print) -> io::Result<()> {
+    println!(rt;
+        "Columns 65531 and 65532 each lack two, and wait: row 65530 rebuilds 65532, and column 65532 then 0;"
+    )?;
+    println!(rt; "row 65534 rebuilds 65535, and column 65531 then 7")
 }
 
 // The marks of the positions, as a grid.
-fn print_side(side: Side) {
+fn print_side(rt: &impl Print, side: Side) -> io::Result<()> {
     let marks = side.marks;
-    print_grid(&marks);
+    print_grid(rt, &marks)
 }
 
-fn main() {
-    print_title();
+fn main(rt: HostRuntime) -> io::Result<()> {
+    print_title(&rt)?;
     let sender = deliver_all(side::open(), 0, false);
     let held = deliver_all(side::open(), 0, true);
-    io::write_all(
-        STDOUT_FILENO,
-        b"\nBefore parity, as the packets came, the last first:\n",
-    );
-    print_side(held);
-    io::write_all(STDOUT_FILENO, b"\nParity, the columns and then the rows:\n");
-    let some = pass_parity(sender, held, side::COLUMN);
-    let all = pass_parity(sender, some, side::ROW);
-    print_rounds();
-    io::write_all(STDOUT_FILENO, b"\nAfter parity:\n");
-    print_side(all);
-    io::write_all(
-        STDOUT_FILENO,
-        b"\nA column with a member, 10, outside the window is refused:\n",
-    );
-    let last = offer_outside(all);
+    println!(rt; "\nBefore parity, as the packets came, the last first:")?;
+    print_side(&rt, held)?;
+    println!(rt; "\nParity, the columns and then the rows:")?;
+    let some = pass_parity(&rt, sender, held, side::COLUMN)?;
+    let all = pass_parity(&rt, sender, some, side::ROW)?;
+    print_rounds(&rt)?;
+    println!(rt; "\nAfter parity:")?;
+    print_side(&rt, all)?;
+    println!(rt; "\nA column with a member, 10, outside the window is refused:")?;
+    let last = offer_outside(&rt, all)?;
     let marks = last.marks;
-    print_count(count_equal(sender, last), count_rebuilt(&marks));
-    io::write_all(
-        STDOUT_FILENO,
-        b"\nThe feed goes on, and the window moves by a matrix at a time:\n",
-    );
-    go_on(sender, last);
+    print_count(&rt, count_equal(sender, last), count_rebuilt(&marks))?;
+    println!(rt; "\nThe feed goes on, and the window moves by a matrix at a time:")?;
+    go_on(&rt, sender, last)
 }

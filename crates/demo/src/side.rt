@@ -19,7 +19,7 @@ const RECORDS: usize = 8;
 
 // The store of 16 positions and 8 records of 188 bytes, and what the last call gave back. The table of records is kept as
 // rows, row i at slot i, with room for one row more.
-#[derive(Drop)]
+#[derive(Clone, Copy)]
 pub struct Side {
     pub media: [u8; 3008],
     pub timestamps: [u32; 16],
@@ -34,10 +34,8 @@ pub struct Side {
 // Rows that are free, each at its slot.
 fn free_rows() -> [u32; 36] {
     let mut words = [0u32; 36];
-    let mut i = 0;
-    while i < RECORDS {
+    for i in 0..RECORDS {
         table::put_row(&mut words, i, i as u32, 0, window::free_record());
-        i += 1;
     }
     words
 }

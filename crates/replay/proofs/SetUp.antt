@@ -1,9 +1,5 @@
 -- A header whose set_up no refusal applies to has small numbers. Assumes nothing.
-use mathlib.Core.Path.{◌≡◌, sym, ap, subst, ◌∙◌}
-use mathlib.Core.List.{List}
-use Prim.Native.Nat.{ℕ, ◌+◌, ◌*◌, ◌≤◌}
-use native.Mathlib.Nat.{mul-le-mul}
-use native.Mathlib.Omega.{arith}
+use Rattle.std.proofs.Common.{◌≡◌, ℕ, ◌+◌, ◌*◌, ◌≤◌, List, sym, ap, subst, ◌∙◌, mul-le-mul, arith}
 use Rattle.answer.specs.First.{first}
 use Rattle.capture.specs.declared.Header.{Header}
 use Rattle.capture.specs.Content.{most_entries}
@@ -28,9 +24,6 @@ small h w fault e f z =
       k-high = subst (λ (m : ℕ). m ≤ most_records) (ap (λ (v : Window). v.k) e) g.k-high;
       p-high = subst (λ (m : ℕ). m ≤ 1428) (ap (λ (v : Window). v.p) e) g.p-high;
     }
-
-pub small-media : (h : Header) → Small h → h.n * h.p ≤ 571200
-small-media h s = mul-le-mul {n₁ = h.n} {n₂ = 400} {m₂ = 1428} s.n-high s.p-high
 
 pub small_product : (h : Header) → Small h → (h.n + h.k) * h.p ≤ 753984
 small_product h s = mul-le-mul {n₁ = h.n + h.k} {n₂ = 528} {m₂ = 1428} (omega (arith, s.n-high, s.k-high)) s.p-high

@@ -1,17 +1,17 @@
 // What comes in: the file that the first argument names, read in pieces.
 ghost use Rattle.std.specs.Prelude.{◌+◌, ◌≤◌, length};
-ghost use Rattle.io.specs.Counts.{IsPrefixLen};
 
 use capture::{Reader, Reading};
+use std::io::Read;
+use std::rt::{Env, Files};
+use std::{fs, str};
 
-// Opens the file that the first argument names, and answers a descriptor, or -1.
-pub fn open_argument() -> i32 {
-    let mut path = io::buffer();
-    let length = os::arg(1, &mut path);
-    if os::errno() != 0 {
-        return -1;
-    }
-    os::open_read(&path[..length])
+// Opens the file that the first argument names, where there is one that can be opened. A path has 4,096 bytes at most.
+pub fn open_argument<R: Env + Files>(rt: &R) -> Option<R::File> {
+    let mut path = [0u8; 4096];
+    let length = rt.arg(1, &mut path).ok()?;
+    let name = str::from_utf8(&path[..length]).ok()?;
+    fs::open(rt, name).ok()
 }
 
 // Before the first piece.
@@ -57,23 +57,22 @@ pub fn least(a: usize, b: usize) -> usize
 
 // Reads once into the part of buf between two places, and answers how many bytes came: none at the end of the file, and none where
 // the read fails.
-fn more(fd: i32, buf: &mut [u8], from: usize, to: usize) -> usize
+fn more(file: &mut impl Read, buf: &mut [u8], from: usize, to: usize) -> usize
     requires { (from ≤ to) × (to ≤ length buf.old) }
     ensures { from + result ≤ to }
 {
-    let part: &mut [u8] = &mut buf[from..to];
-    let got = libc::read(fd, part);
-    io::count(got, part)
+    file.read(&mut buf[from..to]).unwrap_or(0)
 }
 
 // Reads into buf between two places, until that is full or the file ends, and answers the place that was reached.
-pub fn fill(fd: i32, buf: &mut [u8], from: usize, to: usize) -> usize
-    ensures { IsPrefixLen result buf.new }
+pub fn fill(file: &mut impl Read, buf: &mut [u8], from: usize, to: usize) -> usize
+    ensures in_bounds { result ≤ length buf.new }
+    ensures at_most { result ≤ to }
 {
     let end = least(to, buf.len());
     let mut at = least(from, end);
     while at < end {
-        let got = more(fd, buf, at, end);
+        let got = more(file, buf, at, end);
         if got == 0 {
             return at;
         }
@@ -84,26 +83,19 @@ pub fn fill(fd: i32, buf: &mut [u8], from: usize, to: usize) -> usize
 
 // Reads the rest of the file, which may be nothing, and answers 0 where all of it is a capture file, else 21. Each read brings a byte
 // or is the last one, and a file is refused, and not read on, after 772,108 bytes at the latest.
-pub fn rest(fd: i32, before: Reading) -> u32 {
+pub fn rest(file: &mut impl Read, before: Reading) -> u32 {
     let mut piece = [0u8; 1500];
     let mut r = before;
-    let mut turns: u32 = 1000000;
-    while 0 < turns {
+    for _ in 0..1000000u32 {
         let reader = r.reader;
         if reader.stage == 3 {
             return 21;
         }
-        let got = libc::read(fd, &mut piece);
-        if got < 0 {
-            return 21;
+        match file.read(&mut piece) {
+            Err(_) => return 21,
+            Ok(0) => return r.number,
+            Ok(n) => r = load::read(reader, &piece[..n]),
         }
-        if got == 0 {
-            return r.number;
-        }
-        let n = io::count(got, &piece);
-        let next = load::read(reader, &piece[..n]);
-        r = next;
-        turns -= 1;
     }
     21
 }

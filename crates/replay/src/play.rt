@@ -3,11 +3,12 @@ ghost use Rattle.std.specs.Prelude.{◌≤◌};
 ghost use Rattle.window.specs.Limits.{most_records};
 
 use capture::{Header, Reading};
-use libc::STDOUT_FILENO;
 use receiver::{Receiver, Step};
+use std::io;
+use std::io::Read;
 
 // Where a replay stands: what was read, the window, and how much text there is.
-#[derive(Drop)]
+#[derive(Clone, Copy)]
 struct Stand {
     reading: Reading,
     receiver: Receiver,
@@ -19,10 +20,8 @@ fn free_rows(k: usize) -> [u32; 516]
     requires { k ≤ most_records }
 {
     let mut words = [0u32; 516];
-    let mut i = 0;
-    while i < k {
+    for i in 0..k {
         table::put_row(&mut words, i, i as u32, 0, window::free_record());
-        i += 1;
     }
     words
 }
@@ -57,7 +56,7 @@ fn hand_in(
 
 // Entry i: its body is read and offered, and a line is put down.
 fn offer_entry(
-    fd: i32,
+    file: &mut impl Read,
     front: &[u8],
     i: usize,
     k: usize,
@@ -72,7 +71,7 @@ fn offer_entry(
 ) -> Stand {
     let mut body = [0u8; 1500];
     let e = load::entry_of(front, i);
-    let got = crate::input::fill(fd, &mut body, 0, e.length);
+    let got = crate::input::fill(file, &mut body, 0, e.length);
     let before = s.reading;
     let reading = crate::input::read_due(before.reader, &body[..got], e.length);
     let w = s.receiver;
@@ -99,22 +98,27 @@ fn offer_entry(
 }
 
 // The lines and the total, where the file ends as a capture file has to.
-fn finish(fd: i32, s: Stand, text: &[u8], n: usize) {
-    let number = crate::input::rest(fd, s.reading);
+fn finish(
+    rt: &impl Print,
+    file: &mut impl Read,
+    s: Stand,
+    text: &[u8],
+    n: usize,
+) -> io::Result<()> {
+    let number = crate::input::rest(file, s.reading);
     if number != 0 {
-        crate::text::say_number(number);
-        return;
+        return crate::text::say_number(rt, number);
     }
     let said = crate::input::least(s.said, text.len());
-    io::write_all(STDOUT_FILENO, &text[..said]);
+    rt.write_all(&text[..said])?;
     let receiver = s.receiver;
     let window = receiver.window;
-    crate::text::say_present(window.present, n);
+    crate::text::say_present(rt, window.present, n)
 }
 
 // All entries, one after the other.
 fn offer_all(
-    fd: i32,
+    file: &mut impl Read,
     front: &[u8],
     count: usize,
     k: usize,
@@ -128,19 +132,24 @@ fn offer_all(
     text: &mut [u8],
 ) -> Stand {
     let mut s = before;
-    let mut i = 0;
-    while i < count {
-        let next = offer_entry(
-            fd, front, i, k, s, media, timestamps, lengths, marks, parity, words, text,
+    for i in 0..count {
+        s = offer_entry(
+            file, front, i, k, s, media, timestamps, lengths, marks, parity, words, text,
         );
-        s = next;
-        i += 1;
     }
     s
 }
 
 // A window is opened over the room for media and for parity that is lent, and the entries are offered.
-fn play(fd: i32, front: &[u8], h: Header, reading: Reading, media: &mut [u8], parity: &mut [u8])
+fn play(
+    rt: &impl Print,
+    file: &mut impl Read,
+    front: &[u8],
+    h: Header,
+    reading: Reading,
+    media: &mut [u8],
+    parity: &mut [u8],
+) -> io::Result<()>
     requires { h.k ≤ most_records }
 {
     let mut timestamps = [0u32; 400];
@@ -170,7 +179,7 @@ fn play(fd: i32, front: &[u8], h: Header, reading: Reading, media: &mut [u8], pa
         said: 0,
     };
     let after = offer_all(
-        fd,
+        file,
         front,
         h.count,
         h.k,
@@ -183,64 +192,101 @@ fn play(fd: i32, front: &[u8], h: Header, reading: Reading, media: &mut [u8], pa
         &mut words,
         &mut text,
     );
-    finish(fd, after, &text, h.n);
+    finish(rt, file, after, &text, h.n)
 }
 
 // Media and parity share 40,960 bytes. Two parts of one buffer cannot be lent at once, so there are two buffers, of the first of five
 // pairs of sizes that holds the media; the parity then has room in the other.
-fn play_1(fd: i32, front: &[u8], h: Header, reading: Reading)
+fn play_1(
+    rt: &impl Print,
+    file: &mut impl Read,
+    front: &[u8],
+    h: Header,
+    reading: Reading,
+) -> io::Result<()>
     requires { h.k ≤ most_records }
 {
     let mut media = [0u8; 8192];
     let mut parity = [0u8; 40960];
-    play(fd, front, h, reading, &mut media, &mut parity);
+    play(rt, file, front, h, reading, &mut media, &mut parity)
 }
 
-fn play_2(fd: i32, front: &[u8], h: Header, reading: Reading)
+fn play_2(
+    rt: &impl Print,
+    file: &mut impl Read,
+    front: &[u8],
+    h: Header,
+    reading: Reading,
+) -> io::Result<()>
     requires { h.k ≤ most_records }
 {
     let mut media = [0u8; 16384];
     let mut parity = [0u8; 32768];
-    play(fd, front, h, reading, &mut media, &mut parity);
+    play(rt, file, front, h, reading, &mut media, &mut parity)
 }
 
-fn play_3(fd: i32, front: &[u8], h: Header, reading: Reading)
+fn play_3(
+    rt: &impl Print,
+    file: &mut impl Read,
+    front: &[u8],
+    h: Header,
+    reading: Reading,
+) -> io::Result<()>
     requires { h.k ≤ most_records }
 {
     let mut media = [0u8; 24576];
     let mut parity = [0u8; 24576];
-    play(fd, front, h, reading, &mut media, &mut parity);
+    play(rt, file, front, h, reading, &mut media, &mut parity)
 }
 
-fn play_4(fd: i32, front: &[u8], h: Header, reading: Reading)
+fn play_4(
+    rt: &impl Print,
+    file: &mut impl Read,
+    front: &[u8],
+    h: Header,
+    reading: Reading,
+) -> io::Result<()>
     requires { h.k ≤ most_records }
 {
     let mut media = [0u8; 32768];
     let mut parity = [0u8; 16384];
-    play(fd, front, h, reading, &mut media, &mut parity);
+    play(rt, file, front, h, reading, &mut media, &mut parity)
 }
 
-fn play_5(fd: i32, front: &[u8], h: Header, reading: Reading)
+fn play_5(
+    rt: &impl Print,
+    file: &mut impl Read,
+    front: &[u8],
+    h: Header,
+    reading: Reading,
+) -> io::Result<()>
     requires { h.k ≤ most_records }
 {
     let mut media = [0u8; 40960];
     let mut parity = [0u8; 8192];
-    play(fd, front, h, reading, &mut media, &mut parity);
+    play(rt, file, front, h, reading, &mut media, &mut parity)
 }
 
 // Plays into the pair of buffers that fits, for so many bytes of media.
-pub fn play_sized(fd: i32, front: &[u8], h: Header, reading: Reading, media: usize)
+pub fn play_sized(
+    rt: &impl Print,
+    file: &mut impl Read,
+    front: &[u8],
+    h: Header,
+    reading: Reading,
+    media: usize,
+) -> io::Result<()>
     requires { h.k ≤ most_records }
 {
     if media <= 8192 {
-        play_1(fd, front, h, reading);
+        play_1(rt, file, front, h, reading)
     } else if media <= 16384 {
-        play_2(fd, front, h, reading);
+        play_2(rt, file, front, h, reading)
     } else if media <= 24576 {
-        play_3(fd, front, h, reading);
+        play_3(rt, file, front, h, reading)
     } else if media <= 32768 {
-        play_4(fd, front, h, reading);
+        play_4(rt, file, front, h, reading)
     } else {
-        play_5(fd, front, h, reading);
+        play_5(rt, file, front, h, reading)
     }
 }

@@ -2,7 +2,7 @@
 ghost use Rattle.std.specs.Prelude.{◌≤◌, length};
 
 use answer::Answer;
-use libc::STDOUT_FILENO;
+use std::io;
 
 // A byte more, where there is room; how many there are now.
 fn put(text: &mut [u8], at: usize, b: u8) -> usize
@@ -53,21 +53,16 @@ pub fn put_answer(text: &mut [u8], at: usize, a: Answer) -> usize
 }
 
 // A number alone on its line.
-pub fn say_number(number: u32) {
-    io::print_decimal(STDOUT_FILENO, number as u64);
-    io::write_all(STDOUT_FILENO, b"\n");
+pub fn say_number(rt: &impl Print, number: u32) -> io::Result<()> {
+    println!(rt; "{number}")
 }
 
 // Too much for the buffers.
-pub fn say_too_big() {
-    io::write_all(STDOUT_FILENO, b"too big\n");
+pub fn say_too_big(rt: &impl Print) -> io::Result<()> {
+    println!(rt; "too big")
 }
 
 // How many packets are there in the end.
-pub fn say_present(present: usize, n: usize) {
-    io::write_all(STDOUT_FILENO, b"present ");
-    io::print_decimal(STDOUT_FILENO, present as u64);
-    io::write_all(STDOUT_FILENO, b" of ");
-    io::print_decimal(STDOUT_FILENO, n as u64);
-    io::write_all(STDOUT_FILENO, b"\n");
+pub fn say_present(rt: &impl Print, present: usize, n: usize) -> io::Result<()> {
+    println!(rt; "present {present} of {n}")
 }
