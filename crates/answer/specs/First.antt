@@ -1,6 +1,6 @@
 -- Refusals: a call's tests in document 01's order, each with its number; the first that applies is given.
-use Rattle.std.specs.Prelude.{◌≡◌, refl, Bool, true, false, cond, List, [], ◌∷◌, ◌++◌, ℕ, ◌<◌, T, ltb}
-use Rattle.std.proofs.Common.{sym, ap, ◌∙◌, arith, ltb→lt}
+use Rattle.std.specs.Prelude.{◌≡◌, refl, Bool, true, false, cond, List, [], ◌∷◌, ◌++◌, ℕ, T, ltb}
+use Rattle.std.proofs.Common.{sym, ◌∙◌, arith, ltb→lt}
 
 -- the number of the first test that applies; 0 where none does
 unfoldable pub first : List (ℕ × Bool) → ℕ

@@ -1,6 +1,6 @@
 -- What is known where no refusal of a call applied, by name: one record a call. A refusal more is a field more, and moves no other.
 use Rattle.std.specs.Prelude.{◌≡◌, refl, Bool, true, false, not, ◌&&◌, ◌||◌, List, [], ◌∷◌, ◌++◌, map, ℕ, ◌+◌, ◌-◌, ◌<◌, ◌≤◌, length, drop, eqb, leb, ltb}
-use Rattle.std.proofs.Common.{sym, ap, ◌∙◌, length-drop, eqb-true, ltb-true, lt-ltb, le-leb}
+use Rattle.std.proofs.Common.{sym, ap, ◌∙◌, length-drop, ltb-true, lt-ltb, le-leb}
 use Rattle.std.proofs.Math.Bool.{and-false}
 use Rattle.std.proofs.lemmas.Bool.{false≢true, not-false}
 use Rattle.answer.specs.First.{first, None, first_past, first-end, first-append, first-none, first-front, first_back}

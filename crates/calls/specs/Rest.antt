@@ -1,20 +1,20 @@
 -- A store in order is at rest, and so is one that a parity packet with enough missing has gone into: settling changes nothing. Assumes nothing.
-use Rattle.std.specs.Prelude.{◌≡◌, refl, Bool, true, false, cond, ◌&&◌, ℕ, zero, suc, ◌<◌, ◌≤◌, eqb, length, get_or, set}
+use Rattle.std.specs.Prelude.{◌≡◌, refl, Bool, true, false, ◌&&◌, ℕ, zero, suc, ◌<◌, ◌≤◌, eqb, length}
 use Rattle.std.proofs.Common.{sym, ap, ◌∙◌, arith, get_or-set_same, get_or-set_other, ne_eqb, eqb-true}
-use Rattle.std.proofs.Math.Option.{Option, none}
+use Rattle.std.proofs.Math.Option.{none}
 use Rattle.std.proofs.lemmas.Bool.{eqb-false}
 use Rattle.peel.specs.Rest.{rounds}
 use Rattle.window.specs.declared.Record.{Record}
 use Rattle.window.specs.declared.Window.{Window}
 use Rattle.window.specs.Record.{blank}
 use Rattle.window.specs.Limits.{least_missing}
-use Rattle.window.specs.Store.{Store, record_at}
+use Rattle.window.specs.Store.{Store}
 use Rattle.window.specs.Group.{group, missing}
 use Rattle.window.specs.Order.{is_in_use, missing_at}
 use Rattle.window.specs.InOrder.{InOrder}
 use Rattle.calls.specs.Content.{Recovery}
 use Rattle.calls.specs.State.{State, scene, held_record, hold}
-use Rattle.calls.specs.Settle.{ready, better, next_below, next, round_by, round, settle}
+use Rattle.calls.specs.Settle.{ready, next_below, next, round_by, round, settle}
 
 -- no record of the first m is ready
 none_below : (x : State) (m : ℕ) → ((r : ℕ) → r < m → ready x r ≡ false) → next_below x m ≡ none

@@ -1,5 +1,5 @@
 -- What is accepted is a proper content's file.
-use Rattle.std.specs.Prelude.{◌≡◌, refl, Bool, true, false, cond, ◌&&◌, List, [], ◌∷◌, ◌++◌, ℕ, zero, suc, ◌+◌, ◌*◌, ◌-◌, ◌/◌, ◌%◌, ◌≤◌, ◌<◌, ltb, leb, length, take, drop}
+use Rattle.std.specs.Prelude.{◌≡◌, refl, Bool, true, false, cond, ◌&&◌, List, [], ◌∷◌, ◌++◌, ℕ, zero, suc, ◌+◌, ◌*◌, ◌/◌, ◌%◌, ◌≤◌, ◌<◌, ltb, leb, length, take, drop}
 use Rattle.std.proofs.Common.{sym, ap, ap₂, ◌∙◌, append_assoc, arith, ltb-true, leb-true, eqb-true, length-take, length-drop, take-append-drop, drop_of_length-le, drop-drop}
 use Rattle.rtp.specs.Bytes.{be16, bytes16}
 use Rattle.capture.specs.Bytes.{Bytes, bytes_take, bytes_drop, high, low}

@@ -1,5 +1,5 @@
 -- A hand of a table, small or of all records, has room and was gathered of it; and how a call ends over a table that a hand goes back into. Assumes nothing.
-use Rattle.std.proofs.Common.{◌≡◌, refl, sym, ap, subst, ◌∙◌, Bool, true, false, cond, List, ℕ, ◌+◌, ◌*◌, ◌≤◌, length, take, ltb, leb, T, arith, le-ltb, leb→le}
+use Rattle.std.proofs.Common.{◌≡◌, refl, sym, ap, subst, ◌∙◌, Bool, true, false, cond, List, ℕ, ◌+◌, ◌*◌, ◌≤◌, length, ltb, leb, T, arith, le-ltb, leb→le}
 use Rattle.window.specs.declared.Record.{Record}
 use Rattle.window.specs.Limits.{most_records}
 use Rattle.window.specs.Store.{stored}

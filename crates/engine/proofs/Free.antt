@@ -3,17 +3,16 @@
 use mathlib.Core.Path.{◌≡◌, refl, sym, ap, subst, ◌∙◌}
 use mathlib.Core.Bool.{Bool, true, false, cond, ◌&&◌}
 use mathlib.Core.List.{List, [], ◌∷◌}
-use Prim.Native.Nat.{ℕ, zero, suc, ◌+◌, ◌*◌, ◌-◌, ◌<◌, ◌≤◌}
-use native.Mathlib.Nat.{mul-le-mul_right, suc-mul}
+use Prim.Native.Nat.{ℕ, zero, suc, ◌*◌, ◌<◌, ◌≤◌}
 use native.Mathlib.Omega.{arith}
 use lib.Dec.{eqb}
 use lib.ListN.{length, get_or, set, replicate, length-set, length-replicate}
-use lib.Seq.{get_or-set_same, get_or-set_other, paste, length-paste}
+use lib.Seq.{get_or-set_same, get_or-set_other, length-paste}
 use borrow.Author.Tests.{eqb-true, eqb-false}
 use Rattle.window.specs.declared.Record.{Record}
 use Rattle.window.specs.declared.Window.{Window}
 use Rattle.window.specs.Record.{blank}
-use Rattle.window.specs.Store.{record_at, stored}
+use Rattle.window.specs.Store.{stored}
 use Rattle.window.specs.Group.{group, missing}
 use Rattle.window.specs.Order.{used}
 use Rattle.calls.specs.State.{State, scene, recount, release, release_if, release_below}
@@ -25,7 +24,6 @@ use Rattle.table.specs.Fold.{below, rows, fold}
 use Rattle.table.specs.Sound.{SoundRow, Sound}
 use Rattle.group.proofs.Rows.{row_ends}
 use Rattle.engine.specs.Rows.{Desk, row_spent, free_row, free_if, free_below}
-use Rattle.engine.proofs.Same.{recount_twice}
 
 -- a desk
 abbrev pub desk : Window → (parity : List ℕ) → List Row → Desk

@@ -1,18 +1,18 @@
 -- The loop of rounds: what is left to do from here comes to what was to be done from the start. Assumes nothing.
 use mathlib.Core.Path.{◌≡◌, refl, sym, ap, ap₂, ◌∙◌}
 use mathlib.Core.List.{List}
-use mathlib.Core.Option.{Option, none}
-use Prim.Native.Nat.{ℕ, zero, suc, ◌+◌, ◌-◌, ◌<◌, ◌≤◌}
+use mathlib.Core.Option.{none}
+use Prim.Native.Nat.{ℕ, suc, ◌+◌, ◌-◌, ◌<◌, ◌≤◌}
 use native.Mathlib.Nat.{add-zero, add_assoc}
 use native.Mathlib.Omega.{arith}
 use Rattle.peel.specs.Rest.{rounds}
 use Rattle.window.specs.declared.Record.{Record}
 use Rattle.window.specs.declared.Window.{Window}
 use Rattle.window.specs.Limits.{most_counted}
-use Rattle.calls.specs.State.{State, scene, recount}
+use Rattle.calls.specs.State.{scene, recount}
 use Rattle.calls.specs.Settle.{next, round, round_by, settle}
 use Rattle.calls.specs.Rest.{rounds-rest}
-use Rattle.table.specs.View.{Row, slots}
+use Rattle.table.specs.View.{slots}
 use Rattle.table.specs.Apart.{Fits, same-fits}
 use Rattle.engine.specs.declared.Round.{Round}
 use Rattle.engine.specs.Round.{Parts, over, Serves, Rounded, Settled}

@@ -1,14 +1,12 @@
 -- A window value with other counts serves as well. Assumes nothing.
-use mathlib.Core.Path.{◌≡◌, refl, sym, ap, ◌∙◌}
+use mathlib.Core.Path.{◌≡◌, ap, ◌∙◌}
 use mathlib.Core.List.{List}
-use Prim.Native.Nat.{ℕ, ◌*◌, ◌<◌, ◌≤◌}
-use lib.ListN.{length}
+use Prim.Native.Nat.{ℕ}
 use Rattle.window.specs.declared.Window.{Window}
 use Rattle.window.specs.Bounds.{SetUp}
 use Rattle.calls.specs.State.{recount}
 use Rattle.table.specs.View.{Row}
 use Rattle.table.specs.Sound.{SoundRow, Sound}
-use Rattle.engine.specs.Round.{Parts, Serves}
 
 pub set_up_same : (w v : Window) (a b : ℕ) → v ≡ recount w a b → SetUp w → SetUp v
 set_up_same w v a b e h =

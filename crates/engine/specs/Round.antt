@@ -1,11 +1,11 @@
 -- Rounds of rebuilding over a hand: what they do to every table that the hand is apart from, and what they keep.
-use Rattle.std.specs.Prelude.{◌≡◌, List, ℕ, ◌+◌, ◌*◌, ◌<◌, ◌≤◌, length}
+use Rattle.std.specs.Prelude.{◌≡◌, List, ℕ, ◌+◌, ◌*◌, ◌≤◌, length}
 use Rattle.std.proofs.Math.Option.{none}
 use Rattle.window.specs.declared.Record.{Record}
 use Rattle.window.specs.declared.Window.{Window}
 use Rattle.window.specs.Store.{Store, stored}
 use Rattle.window.specs.Bounds.{SetUp}
-use Rattle.calls.specs.State.{State, scene, recount}
+use Rattle.calls.specs.State.{scene, recount}
 use Rattle.calls.specs.Settle.{next, round, settle}
 use Rattle.table.specs.View.{Row, slots, scatter}
 use Rattle.table.specs.Apart.{Fits}

@@ -1,11 +1,10 @@
 -- A hand that was gathered of a table is laid over it; what a method leaves of it goes back. Assumes nothing.
 use mathlib.Core.Path.{◌≡◌, refl, sym, ap, subst, ◌∙◌}
 use mathlib.Core.Bool.{Bool, true, false, cond}
-use mathlib.Core.List.{List, []}
-use Prim.Native.Nat.{ℕ, ◌+◌, ◌*◌, ◌<◌, ◌≤◌}
+use mathlib.Core.List.{List}
+use Prim.Native.Nat.{ℕ, ◌+◌, ◌*◌, ◌≤◌}
 use native.Mathlib.Nat.{not-suc-le-zero}
 use native.Mathlib.Omega.{arith}
-use lib.Dec.{ltb}
 use lib.ListN.{length, take}
 use borrow.Author.Tests.{le-ltb}
 use Rattle.window.specs.declared.Record.{Record}
@@ -15,13 +14,12 @@ use Rattle.calls.specs.Call.{Outcome, Written}
 use Rattle.calls.specs.Move.{Moved, outcome_of}
 use Rattle.table.specs.View.{row_words, Row, hand, scatter}
 use Rattle.table.specs.Apart.{Within}
-use Rattle.table.specs.Gather.{gathered, Gathered, gathered-apart, gathered-scatter, gathered-within, gathered-length}
-use Rattle.order.specs.Stands.{Taken}
+use Rattle.table.specs.Gather.{gathered, gathered-apart, gathered-scatter, gathered-within, gathered-length}
 use Rattle.receiver.specs.declared.Step.{Step}
 use Rattle.receiver.specs.Step.{Laid, table_of, Stepped, Wrote, Advanced}
 use Rattle.face.specs.declared.Reply.{Reply}
 use Rattle.face.specs.declared.Finished.{Finished}
-use Rattle.face.specs.Reply.{Replied, Filled, numbered, replied, filled}
+use Rattle.face.specs.Reply.{numbered, replied, filled}
 use Rattle.face.specs.Done.{reached, Lent, Done, Given, Carries}
 
 -- no rows leave the table as it is

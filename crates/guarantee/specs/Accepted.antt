@@ -5,7 +5,7 @@ use Rattle.std.proofs.Math.Logic.{inl, inr, ⊎_elim}
 use Rattle.std.proofs.Math.Decide.{ℕ_discrete}
 use Rattle.std.proofs.lemmas.Bool.{not-true}
 use Rattle.answer.specs.declared.Answer.TheVariants.{Done}
-use Rattle.sequence.specs.Lists.{up_to, count, length-up_to}
+use Rattle.sequence.specs.Lists.{up_to, length-up_to}
 use Rattle.rtp.specs.Length.{good_length}
 use Rattle.window.specs.declared.Record.{Record}
 use Rattle.window.specs.declared.Window.{Window}

@@ -24,7 +24,7 @@ use Rattle.guarantee.specs.Lengths.{length-padded, Clean, padded_clean, zeros_cl
 use Rattle.guarantee.specs.View.{Limits, group_of, group-lt, code}
 use Rattle.guarantee.specs.Wire.{media-number, media-content, media-faultless, parity-snbase, parity-recovery, parity-faultless, xors_lt}
 use Rattle.guarantee.specs.Offers.{media_seen, parity_seen}
-use Rattle.guarantee.specs.Demand3.{Port, mediaPort, columnPort, rowPort, Offer, Stretch, Fills, content_sent, recovery_sent, UnalteredMedia, UnalteredParity, UnalteredOn, Unaltered, media_name, parity_name, name_on}
+use Rattle.guarantee.specs.Demand3.{Port, mediaPort, columnPort, rowPort, Offer, Stretch, Fills, content_sent, recovery_sent, UnalteredMedia, UnalteredParity, UnalteredOn, media_name, parity_name, name_on}
 
 -- ---- an offer as the theory sees it
 

@@ -6,7 +6,7 @@ use Prim.Native.Nat.{ℕ, ◌+◌, ◌*◌, ◌-◌, ◌^◌, ◌<◌, ◌≤◌
 use native.Mathlib.Omega.{arith}
 use lib.Dec.{eqb, leb, ltb}
 use lib.ListN.{length, get_or, take, drop, length-drop}
-use borrow.Author.Tests.{lt-ltb, le-ltb, eq-eqb, ne_eqb, not-true, not-false, ltb-true, le-leb}
+use borrow.Author.Tests.{lt-ltb, le-ltb, eq-eqb, ne_eqb, not-false, ltb-true, le-leb}
 use Rattle.answer.specs.First.{first, first_hit, first_past, first-end}
 use Rattle.xor.specs.Same.{same}
 use Rattle.sequence.specs.Lists.{up_to, any}
@@ -21,7 +21,7 @@ use Rattle.window.specs.Store.{Store, stored, timestamp_at, length_at}
 use Rattle.window.specs.Bounds.{SetUp}
 use Rattle.window.specs.Group.{position, group, inside, is_missing, missing}
 use Rattle.window.specs.Look.{look, at_least, waits-is, lacks_is}
-use Rattle.window.specs.Plain.{Inside, inside_of}
+use Rattle.window.specs.Plain.{inside_of}
 use Rattle.calls.specs.Call.{media_place_tests, parity_place_tests, same_content, content_at, holds, holds_same, contradicts}
 use Rattle.calls.specs.Accept.{content_of, recovery_of}
 use Rattle.calls.specs.Content.{Recovery, same_recovery, recovery_over}

@@ -1,18 +1,15 @@
 -- The parity packets in hand, scanned row by row. Assumes nothing.
-use mathlib.Core.Path.{◌≡◌, refl, sym, ap, ◌∙◌}
-use mathlib.Core.Bool.{Bool, true, false, cond, not, ◌&&◌, ◌||◌}
+use mathlib.Core.Path.{◌≡◌, ◌∙◌}
 use mathlib.Core.List.{List}
-use Prim.Native.Nat.{ℕ, suc, ◌+◌, ◌<◌, ◌≤◌}
-use native.Mathlib.Omega.{arith}
+use Prim.Native.Nat.{ℕ}
 use lib.ListN.{length}
 use Rattle.sequence.specs.Lists.{up_to, any}
-use Rattle.rtp.specs.Fec.{snbase}
 use Rattle.window.specs.declared.Record.{Record}
 use Rattle.window.specs.declared.Window.{Window}
 use Rattle.window.specs.Store.{stored}
 use Rattle.calls.specs.Call.{holds, holds_same}
-use Rattle.table.specs.View.{Row, slot_at, it_at, scatter}
-use Rattle.table.specs.Apart.{Free, Fits, get-scatter}
+use Rattle.table.specs.View.{Row, slot_at, scatter}
+use Rattle.table.specs.Apart.{Fits, get-scatter}
 use Rattle.table.specs.Scans.{any-rows}
 use Rattle.order.proofs.Agree.{any_same}
 use Rattle.offer.specs.Rows.{row_holds, row_same}

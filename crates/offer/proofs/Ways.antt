@@ -1,10 +1,10 @@
 -- The ways through an offer. Assumes nothing.
-use mathlib.Core.Path.{◌≡◌, refl, sym, ap, subst, ◌∙◌}
+use mathlib.Core.Path.{◌≡◌, sym, ap, subst, ◌∙◌}
 use mathlib.Core.Bool.{Bool, true, false, cond}
-use mathlib.Core.List.{List, [], ◌++◌}
-use Prim.Native.Nat.{ℕ, ◌+◌, ◌*◌, ◌<◌, ◌≤◌}
+use mathlib.Core.List.{List, []}
+use Prim.Native.Nat.{ℕ, ◌*◌, ◌<◌, ◌≤◌}
 use native.Mathlib.Omega.{arith}
-use lib.ListN.{length, set, get_or}
+use lib.ListN.{length, set}
 use lib.Seq.{paste}
 use Rattle.answer.specs.declared.Answer.TheVariants.{Done, Refused}
 use Rattle.answer.specs.First.{first}
@@ -15,17 +15,17 @@ use Rattle.window.specs.declared.Sizes.{Sizes}
 use Rattle.window.specs.declared.Window.{Window}
 use Rattle.window.specs.Record.{blank}
 use Rattle.window.specs.Limits.{least_missing}
-use Rattle.window.specs.Store.{Store, stored, sizes_of}
+use Rattle.window.specs.Store.{Store, stored}
 use Rattle.window.specs.Group.{group, missing}
 use Rattle.window.specs.InOrder.{InOrder}
-use Rattle.calls.specs.State.{State, scene, recount, held_record, hold}
+use Rattle.calls.specs.State.{State, scene, held_record, hold}
 use Rattle.calls.specs.Settle.{settle}
 use Rattle.calls.specs.Accept.{accept_media, accept_parity, first_free, recovery_of}
 use Rattle.calls.specs.Call.{Outcome, standing_tests, media_place_tests, parity_place_tests, media_offer_tests, parity_offer_tests, refused, settled, begun, offered_media, offered_parity}
 use Rattle.calls.specs.Standing.{standing-good}
 use Rattle.calls.specs.Rest.{order-rest, held-rest}
-use Rattle.table.specs.View.{Row, slots, scatter}
-use Rattle.table.specs.Apart.{Fits, Alike, alike-scatter, alike-fits, length-scatter}
+use Rattle.table.specs.View.{Row, scatter}
+use Rattle.table.specs.Apart.{Fits, alike-scatter, alike-fits, length-scatter}
 use Rattle.table.specs.Hold.{gap_from, hold_in, first_free-rows, held_in_table}
 use Rattle.order.specs.Stands.{Taken, Stands, Stood}
 use Rattle.engine.specs.Round.{Parts, over, Serves}

@@ -1,5 +1,5 @@
 -- An offer over a hand: what it says of every table that the hand was taken of.
-use Rattle.std.specs.Prelude.{◌≡◌, Bool, true, false, cond, List, ℕ, ◌+◌, ◌*◌, ◌<◌, ◌≤◌, length}
+use Rattle.std.specs.Prelude.{◌≡◌, true, false, cond, List, ℕ, ◌+◌, ◌*◌, ◌<◌, ◌≤◌, length}
 use Rattle.std.proofs.Math.Seq.{paste}
 use Rattle.answer.specs.declared.Answer.TheVariants.{Done}
 use Rattle.rtp.specs.Fec.{snbase}

@@ -215,14 +215,7 @@ fn any_holds(rows: &[u32], m: usize, stream: u8, snbase: u16) -> bool
 }
 
 // Row i holds the group of a parity datagram with the same recovery.
-fn row_same(
-    w: Window,
-    stream: u8,
-    datagram: &[u8],
-    parity: &[u8],
-    rows: &[u32],
-    i: usize,
-) -> bool
+fn row_same(w: Window, stream: u8, datagram: &[u8], parity: &[u8], rows: &[u32], i: usize) -> bool
     requires { (i < length (hand rows.now)) × (used (it_at (hand rows.now) i) ≡ true → slot_at (hand rows.now) i < w.k) × (w.k * w.p ≤ length parity.now) × Fitting parity_header_size w.p datagram.now }
     ensures { result ≡ row_same w.p parity.now (hand rows.now) stream datagram.now i }
 {

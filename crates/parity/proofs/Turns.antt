@@ -1,15 +1,14 @@
 -- A turn of each loop: one timestamp more, one length more, some rows more. Assumes nothing.
 use mathlib.Core.Path.{◌≡◌, refl, sym, ap, ◌∙◌}
-use mathlib.Core.Bool.{true, false, cond}
-use mathlib.Core.List.{List, [], ◌∷◌, ◌++◌, append-nil, map}
+use mathlib.Core.List.{List, [], ◌∷◌, ◌++◌, map}
 use Prim.Native.Nat.{ℕ, zero, suc, ◌+◌, ◌*◌, ◌<◌, ◌≤◌}
 use native.Mathlib.Numerals.{add-one}
 use native.Mathlib.Decide.{dec_lt}
 use native.Mathlib.Omega.{arith}
-use lib.ListN.{length, get_or, take, drop, set, take-append-drop, drop_of_length-le, length-take}
-use lib.Seq.{take-add, drop_at, drop-cons, take-suc, take-suc-set, take-take, drop-append-le, length-take-le}
+use lib.ListN.{length, get_or, take, drop, take-append-drop, drop_of_length-le, length-take}
+use lib.Seq.{take-add, drop_at, drop-cons, take-suc, take-take, drop-append-le, length-take-le}
 use lib.Bits.{bit_xor, xor_zero_r}
-use Rattle.sequence.specs.Lists.{up_to, keep, keep_append, map-append}
+use Rattle.sequence.specs.Lists.{map-append}
 use Rattle.xor.specs.Xor.{xor_all, xor_at, xor_parts}
 use Rattle.xor.specs.Laws.{xor_assoc}
 use Rattle.parity.specs.Rows.{places}

@@ -1,11 +1,11 @@
 -- The words of m rows, lent as a part of some words, and put back. Assumes nothing.
-use mathlib.Core.Path.{◌≡◌, refl, sym, ap, ◌∙◌}
+use mathlib.Core.Path.{◌≡◌, sym, ap, ◌∙◌}
 use mathlib.Core.List.{List, ◌++◌}
 use Prim.Native.Nat.{ℕ, ◌+◌, ◌*◌, ◌<◌, ◌≤◌}
 use native.Mathlib.Omega.{arith}
 use lib.ListN.{length, take, drop, length-append, length-drop}
 use lib.Seq.{length-take-le, take_at}
-use Rattle.table.specs.View.{Row, row_words, hand}
+use Rattle.table.specs.View.{row_words, hand}
 use Rattle.table.specs.Laws.{long, length-hand, take-hand}
 
 module _ (words : List ℕ) (m : ℕ) (room : (m + 1) * row_words ≤ length words) where

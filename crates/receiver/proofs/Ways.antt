@@ -2,11 +2,10 @@
 use mathlib.Core.Path.{◌≡◌, refl, sym, ap, subst, ◌∙◌}
 use mathlib.Core.Bool.{Bool, true, false, cond}
 use mathlib.Core.List.{List, ◌++◌}
-use Prim.Native.Nat.{ℕ, ◌+◌, ◌*◌, ◌<◌, ◌≤◌}
+use Prim.Native.Nat.{ℕ, ◌+◌, ◌*◌, ◌≤◌}
 use native.Mathlib.Omega.{arith}
-use lib.ListN.{length, take, drop, length-take}
+use lib.ListN.{length, take, drop}
 use Rattle.answer.specs.declared.Answer.{Answer}
-use Rattle.answer.specs.declared.Answer.TheVariants.{Refused}
 use Rattle.window.specs.declared.Record.{Record}
 use Rattle.window.specs.declared.Window.{Window}
 use Rattle.window.specs.Limits.{most_records}
@@ -14,18 +13,17 @@ use Rattle.window.specs.Store.{Store, stored}
 use Rattle.window.specs.Record.{blank}
 use Rattle.calls.specs.Call.{Outcome, Written}
 use Rattle.calls.specs.Move.{Moved, outcome_of, moved}
-use Rattle.table.specs.View.{Row, row_words, hand, slot_at, slots, scatter}
+use Rattle.table.specs.View.{Row, row_words, hand, scatter}
 use Rattle.table.specs.Apart.{Within, same-slot, same_length}
-use Rattle.table.specs.Hold.{gap_from, hold_in, hold-within}
+use Rattle.table.specs.Hold.{hold_in, hold-within}
 use Rattle.order.specs.Stands.{Taken}
-use Rattle.engine.specs.Round.{Parts, over}
 use Rattle.offer.specs.declared.Offered.{Offered}
-use Rattle.offer.specs.Offer.{left, outcome, Offer}
+use Rattle.offer.specs.Offer.{left, Offer}
 use Rattle.moving.specs.declared.Moved as moving
 use Rattle.moving.specs.Move.{Advance}
 use Rattle.receiver.specs.declared.Step.{Step}
 use Rattle.receiver.specs.Step.{Laid, table_of, Stepped, Wrote, Advanced}
-use Rattle.receiver.proofs.Part.{more_rows, part_is, part_long, back_is, back_more}
+use Rattle.receiver.proofs.Part.{part_is, back_is, back_more}
 
 -- a step
 abbrev pub step_of : Answer → Window → (rows : ℕ) → (changed : Bool) → Step

@@ -1,5 +1,5 @@
 -- A call as a method over a hand: what it says of every table that the hand is laid over.
-use Rattle.std.specs.Prelude.{◌≡◌, Bool, false, List, ℕ, ◌+◌, ◌*◌, ◌≤◌, length, take}
+use Rattle.std.specs.Prelude.{◌≡◌, false, List, ℕ, ◌+◌, ◌*◌, ◌≤◌, length, take}
 use Rattle.window.specs.declared.Record.{Record}
 use Rattle.window.specs.Limits.{most_records}
 use Rattle.window.specs.Store.{Store, stored}

@@ -1,8 +1,7 @@
 -- Refusals 6 to 12: what is wrong with a datagram by itself (01, "When the desk says no").
-use Rattle.std.specs.Prelude.{Bool, true, false, not, ◌&&◌, ◌||◌, List, [], ◌∷◌, ℕ, ◌-◌, eqb, ltb, length}
-use Rattle.answer.specs.First.{first}
+use Rattle.std.specs.Prelude.{Bool, not, ◌&&◌, ◌||◌, List, [], ◌∷◌, ℕ, ◌-◌, eqb, ltb, length}
 use Rattle.rtp.specs.Rtp.{rtp_header_size, media_type, parity_type, version, padding, extension, csrc_count, marker, payload_type}
-use Rattle.rtp.specs.Fec.{parity_header_size, column, row, offset_of, na_of, by_na, e_bit, type_recovery, mask, x_bit, d_bit, fec_type, index, offset, na, snbase_ext}
+use Rattle.rtp.specs.Fec.{parity_header_size, column, offset_of, na_of, by_na, e_bit, type_recovery, mask, x_bit, d_bit, fec_type, index, offset, na, snbase_ext}
 use Rattle.rtp.specs.Length.{good_length}
 
 -- 6: shorter than its headers

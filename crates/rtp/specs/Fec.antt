@@ -3,7 +3,7 @@
 --     byte 12-13   14-15            16             17-19  20-23               24                  25      26  27
 --     SNBase low   length recovery  E PT recovery  mask   timestamp recovery  X D type index      Offset  NA  SNBase ext
 --                                   1 7 bits                                  1 1 3    3 bits
-use Rattle.std.specs.Prelude.{◌≡◌, Bool, true, false, cond, List, [], ◌∷◌, ◌++◌, ℕ, ◌+◌, ◌*◌, ◌/◌, ◌%◌, eqb, replicate}
+use Rattle.std.specs.Prelude.{◌≡◌, cond, List, [], ◌∷◌, ◌++◌, ℕ, ◌+◌, ◌*◌, ◌/◌, ◌%◌, eqb, replicate}
 use Rattle.xor.specs.Xor.{xor_all}
 use Rattle.xor.specs.Laws.{xor_all-same}
 use Rattle.rtp.specs.Bytes.{byte, be16, be32, bytes16, bytes32}

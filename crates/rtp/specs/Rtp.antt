@@ -3,7 +3,7 @@
 --     byte 0      1         2-3              4-7        8-11
 --     V P X CC    M PT      sequence number  timestamp  SSRC
 --     2 1 1 4     1 7 bits
-use Rattle.std.specs.Prelude.{List, [], ◌∷◌, ◌++◌, ℕ, ◌+◌, ◌*◌, ◌/◌, ◌%◌}
+use Rattle.std.specs.Prelude.{List, ◌∷◌, ◌++◌, ℕ, ◌/◌, ◌%◌}
 use Rattle.rtp.specs.Bytes.{byte, be16, be32, bytes16, bytes32}
 
 abbrev pub rtp_header_size : ℕ

@@ -2,17 +2,17 @@
 use mathlib.Core.Path.{◌≡◌, refl, sym, ap, subst, ◌∙◌}
 use mathlib.Core.Bool.{Bool, true, false, cond, not}
 use mathlib.Core.List.{List, [], ◌∷◌, ◌++◌}
-use Prim.Native.Nat.{ℕ, zero, ◌+◌, ◌-◌, ◌*◌, ◌<◌, ◌≤◌, suc}
+use Prim.Native.Nat.{ℕ, zero, ◌+◌, ◌-◌, ◌<◌, ◌≤◌, suc}
 use native.Mathlib.Omega.{arith}
 use native.Mathlib.Numerals.{add-one}
 use lib.Dec.{eqb, ltb}
 use lib.Bits.{bit_or, or_add_and, and_le_l, and_le_r}
-use lib.ListN.{length, get_or, set, take, drop, length-append, length-set, length-drop, replicate, length-replicate, replicate-append-replicate}
+use lib.ListN.{length, get_or, set, take, drop, length-append, length-drop, replicate, length-replicate, replicate-append-replicate}
 use lib.Seq.{set_at, append_snoc, take-suc-set, length-take-le, drop-length, drop-cons, get_or-take}
-use borrow.Author.Tests.{not-false, eq-eqb, eqb-true, ne_eqb, lt-ltb, le-ltb, ltb-true, ltb-false}
+use borrow.Author.Tests.{not-false, eq-eqb, eqb-true, ne_eqb, lt-ltb, le-ltb, ltb-true}
 use Rattle.window.specs.declared.Record.{Record}
 use Rattle.window.specs.Record.{blank}
-use Rattle.table.specs.View.{Row, nobody, hand, slot_at, put, put_note, it_at, scatter}
+use Rattle.table.specs.View.{Row, nobody, slot_at, put, put_note, it_at, scatter}
 use Rattle.table.specs.Apart.{Within}
 use Rattle.table.specs.Gather.{more, gathered, Gathered, wiped}
 

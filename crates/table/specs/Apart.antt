@@ -8,7 +8,7 @@ use Rattle.std.proofs.Math.ListN.{set}
 use Rattle.std.proofs.Math.Seq.{get_or-set_same, get_or-set_other, set-set, set_comm}
 use Rattle.window.specs.declared.Record.{Record}
 use Rattle.window.specs.Record.{blank}
-use Rattle.table.specs.View.{Row, nobody, slot_at, it_at, put, put_note, slots, its, scatter}
+use Rattle.table.specs.View.{Row, slot_at, it_at, put, put_note, slots, its, scatter}
 
 -- record r of a table is free
 abbrev pub Free : List Record → ℕ → Type 0

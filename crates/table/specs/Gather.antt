@@ -1,10 +1,10 @@
 -- The hand that is gathered of a table. Assumes nothing.
-use Rattle.std.specs.Prelude.{◌≡◌, refl, Bool, true, false, cond, List, [], ◌∷◌, ◌++◌, ℕ, zero, suc, ◌+◌, ◌<◌, ◌≤◌, eqb, ltb, length, get_or, set, take, drop, replicate}
-use Rattle.std.proofs.Common.{sym, ap, ◌∙◌, arith, eqb-true}
+use Rattle.std.specs.Prelude.{◌≡◌, refl, Bool, true, false, cond, List, [], ◌∷◌, ◌++◌, ℕ, zero, suc, ◌+◌, ◌≤◌, eqb, ltb, length, get_or, set, take, drop, replicate}
+use Rattle.std.proofs.Common.{ap, ◌∙◌, arith, eqb-true}
 use Rattle.std.proofs.lemmas.List.{set-get_or}
 use Rattle.window.specs.declared.Record.{Record}
 use Rattle.window.specs.Record.{blank}
-use Rattle.table.specs.View.{Row, slot_at, slots, scatter}
+use Rattle.table.specs.View.{Row, scatter}
 use Rattle.table.specs.Apart.{Free, Apart, done, free, held, Within, within, apart-length, Fits}
 
 -- one record more: it is held where its mark is not 0

@@ -9,7 +9,7 @@ use Rattle.window.specs.declared.Record.{Record}
 use Rattle.window.specs.Record.{blank}
 use Rattle.window.specs.Order.{used}
 use Rattle.table.specs.View.{Row, nobody, slot_at, note_at, it_at, put, scatter}
-use Rattle.table.specs.Apart.{Free, Apart, done, free, held, ends, least, get-scatter, apart-scatter, Within, Fits}
+use Rattle.table.specs.Apart.{Apart, done, free, held, ends, least, get-scatter, apart-scatter, Within, Fits}
 
 -- the first number from q on that is not the slot of a row in use, where the rows' slots are from q on
 abbrev pub gap_from : ℕ → List Row → ℕ

@@ -3,7 +3,7 @@ use Rattle.std.specs.Prelude.{◌≡◌, refl, List, [], ◌∷◌, ℕ, zero, s
 use Rattle.std.proofs.Common.{ap, ◌∙◌, arith, not-suc-le-zero, le_of_suc-le-suc}
 use Rattle.std.proofs.Math.Arith.{digits_div, digits_mod}
 use Rattle.window.specs.declared.Record.{Record}
-use Rattle.table.specs.View.{Row, nobody, row_words, head_of, record_of, hand, words_at, put_words, fit, slot_at, note_at, it_at, put}
+use Rattle.table.specs.View.{Row, row_words, head_of, record_of, hand, words_at, put_words, fit, slot_at, note_at, it_at, put}
 
 -- as many words as a row has are there for each row, and fewer are left over
 pub long : (ws : List ℕ) → (length (hand ws) * row_words ≤ length ws) × (length ws < length (hand ws) * row_words + row_words)

@@ -1,6 +1,5 @@
 -- What is known of a hand behind refusal 5: each row in use can be worked on.
 use Rattle.std.specs.Prelude.{◌≡◌, true, List, ℕ, ◌<◌, ◌≤◌, length, get_or}
-use Rattle.std.proofs.Common.{arith}
 use Rattle.window.specs.declared.Window.{Window}
 use Rattle.window.specs.Group.{group}
 use Rattle.window.specs.Look.{look}

@@ -1,5 +1,5 @@
 -- The products of a window's numbers fit a `usize`. Assumes nothing.
-use Prim.Native.Nat.{ℕ, ◌*◌, ◌<◌, ◌≤◌}
+use Prim.Native.Nat.{ℕ, ◌*◌, ◌≤◌}
 use native.Mathlib.Nat.{mul-le-mul, lt_of_le_of_lt}
 use lib.Dec.{lit<}
 use mir.Val.{Fits}

@@ -1,10 +1,9 @@
 -- What refusal 5 leaves known: the store is in order.
-use Rattle.std.specs.Prelude.{◌≡◌, refl, Bool, true, false, ◌&&◌, ◌||◌, List, ℕ, ◌<◌, ◌≤◌, eqb, leb, length, get_or}
+use Rattle.std.specs.Prelude.{◌≡◌, refl, Bool, true, false, ◌&&◌, ◌||◌, ℕ, ◌<◌, ◌≤◌, eqb, leb, length, get_or}
 use Rattle.std.proofs.Math.Path.{ap}
-use Rattle.std.proofs.Common.{◌∙◌}
 use Rattle.std.proofs.Math.Bool.{not}
 use borrow.Author.Tests.{leb-true, le-leb, eqb-true, eq-eqb, not-true, not-false}
-use Rattle.sequence.specs.Lists.{up_to, all, any, count, and_split, all_true, true-all, any_false, false-any}
+use Rattle.sequence.specs.Lists.{up_to, any, count, and_split, all_true, true-all, any_false, false-any}
 use Rattle.rtp.specs.Faults.{no_row}
 use Rattle.rtp.specs.Length.{good_length}
 use Rattle.window.specs.declared.Window.{Window}

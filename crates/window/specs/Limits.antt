@@ -1,5 +1,5 @@
 -- Limits of a window's set_up numbers: refusals 1 to 3 (01, "Setting up a window").
-use Rattle.std.specs.Prelude.{Bool, true, false, not, ◌&&◌, ◌||◌, List, [], ◌∷◌, ℕ, ◌*◌, ◌/◌, ◌%◌, eqb, leb, ltb}
+use Rattle.std.specs.Prelude.{Bool, not, ◌&&◌, ◌||◌, List, [], ◌∷◌, ℕ, ◌*◌, ◌/◌, ◌%◌, eqb, leb, ltb}
 use Rattle.window.specs.declared.Window.{Window}
 
 -- bits of a sequence number

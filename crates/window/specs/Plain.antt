@@ -1,8 +1,8 @@
 -- The positions of a group that lies in the window as plain sums, and that none of them stands in it twice. Both rest on one fact: a window
 -- and the span of a group together are no more than there are sequence numbers (`no_wrap`).
-use Rattle.std.specs.Prelude.{◌≡◌, refl, Bool, true, false, cond, List, map, ℕ, ◌+◌, ◌*◌, ◌-◌, ◌^◌, ◌<◌, ◌≤◌, eqb, ltb}
-use Rattle.std.proofs.Common.{sym, ap, ◌∙◌, mul-le-mul, mul-le-mul_right, arith, ltb-true}
-use Rattle.sequence.specs.Lists.{up_to, count, count_map}
+use Rattle.std.specs.Prelude.{◌≡◌, Bool, true, false, cond, ℕ, ◌+◌, ◌*◌, ◌-◌, ◌^◌, ◌<◌, ◌≤◌, eqb, ltb}
+use Rattle.std.proofs.Common.{sym, ◌∙◌, mul-le-mul, mul-le-mul_right, arith, ltb-true}
+use Rattle.sequence.specs.Lists.{count}
 use Rattle.sequence.specs.Wrap.{member, ahead-members, ahead_plain, below_last}
 use Rattle.sequence.specs.Line.{line, line-once}
 use Rattle.rtp.specs.Fec.{offset_of, na_of}

@@ -1,9 +1,9 @@
 -- Laws of payloads with zeros up to p bytes. Assumes nothing.
-use Rattle.std.specs.Prelude.{◌≡◌, refl, ◌⊎◌, Bool, true, false, ◌&&◌, List, [], ◌∷◌, ◌++◌, ℕ, zero, suc, ◌+◌, ◌-◌, ◌≤◌, eqb, length, take, drop, replicate}
-use Rattle.std.proofs.Common.{sym, ap, ap₂, ◌∙◌, inl, inr, append_assoc, append-nil, arith, length-append, length-take, length-drop, take-append-drop, zero-add, take_at, drop_at, take_all, take-take, drop-drop, length-take-le}
+use Rattle.std.specs.Prelude.{◌≡◌, refl, ◌⊎◌, Bool, ◌&&◌, List, [], ◌∷◌, ◌++◌, ℕ, zero, suc, ◌+◌, ◌-◌, ◌≤◌, eqb, length, take, drop, replicate}
+use Rattle.std.proofs.Common.{sym, ap, ap₂, ◌∙◌, inl, inr, append_assoc, arith, length-append, length-take, length-drop, take-append-drop, zero-add, take_at, drop_at, take_all, take-take, drop-drop, length-take-le}
 use Rattle.std.specs.Int.Bits.{bit_xor, xor_zero_r}
 use Rattle.std.proofs.lemmas.List.{length-replicate, replicate-append-replicate, take-append-le}
-use Rattle.std.proofs.Math.Seq.{paste, take-nil, take-append-add}
+use Rattle.std.proofs.Math.Seq.{paste, take-append-add}
 use Rattle.std.proofs.lemmas.List.Edits.{take-paste, drop-paste}
 use Rattle.xor.specs.Xor.{zip_xor, xor_at, padded, take-zip, length-zip}
 use Rattle.xor.specs.Same.{same, same_self}

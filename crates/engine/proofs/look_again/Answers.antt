@@ -1,6 +1,5 @@
 -- `engine::look_again` meets its contract: after j turns the first j rows are right again. Assumes nothing.
 use mathlib.Core.Path.{refl}
-use Prim.Native.Nat.{◌-◌}
 use Rattle.table.specs.View.{hand}
 use Rattle.table.specs.Laws.{length-same}
 use Rattle.engine.proofs.Again.{again_none, again_more, again_all, alike-inside}

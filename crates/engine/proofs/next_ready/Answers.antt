@@ -1,6 +1,5 @@
 -- `engine::next_ready` meets its contract: the best is that of the rows passed. Assumes nothing.
 use mathlib.Core.Path.{◌≡◌, sym, ap, ◌∙◌}
-use Prim.Native.Nat.{◌-◌}
 use Rattle.table.specs.View.{hand}
 use Rattle.engine.specs.Rows.{next_row}
 use Rattle.engine.proofs.Next.{leads_start, leads_more}

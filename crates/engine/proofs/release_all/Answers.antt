@@ -1,6 +1,6 @@
 -- `engine::release_all` meets its contract: after i turns the first i rows are released. Assumes nothing.
 use mathlib.Core.Path.{◌≡◌, refl, ap, ◌∙◌}
-use Prim.Native.Nat.{ℕ, ◌-◌}
+use Prim.Native.Nat.{ℕ}
 use Rattle.table.specs.View.{hand}
 use Rattle.table.specs.Laws.{length-same}
 use Rattle.table.specs.Fold.{below}

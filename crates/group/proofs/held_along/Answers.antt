@@ -1,8 +1,7 @@
 -- `group::held_along` meets its contract: after j turns the rows are the members held of the first j. Assumes nothing.
 use mathlib.Core.Path.{◌≡◌, refl, ap, ◌∙◌}
 use mathlib.Core.Bool.{Bool, not}
-use mathlib.Core.Logic.{⊎_elim}
-use Prim.Native.Nat.{ℕ, ◌-◌}
+use Prim.Native.Nat.{ℕ}
 use lib.ListN.{length-set}
 use borrow.Author.Tests.{eq-eqb, ne_eqb}
 use Rattle.window.specs.Group.{is_missing}
@@ -35,7 +34,7 @@ loop-j-preserved c =
     let on = member-next the-args.snbase the-args.offset the-loop.j the-loop.number the-next.result the-loop.invariant.3 the-next.ensures in
     let test : ℕ → Bool = λ i. not (is_missing the-args.marks.now i) in
     elim the-if1.branch [
-      then-marks-i-ne0 w ↦ (
+      | then-marks-i-ne0 w ↦ (
         omega arith,
         omega arith,
         rw w.rows-is (simp length-set the-loop.invariant.2),

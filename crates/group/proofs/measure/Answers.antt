@@ -1,7 +1,7 @@
 -- `group::measure` meets its contract: after i turns it has the exclusive-or and the longest of the first i lengths, and the flag says that each is p.
 -- Assumes nothing.
 use mathlib.Core.Path.{◌≡◌, refl, sym, ap, ◌∙◌}
-use Prim.Native.Nat.{ℕ, max, ◌-◌}
+use Prim.Native.Nat.{ℕ, max}
 use lib.Dec.{eqb}
 use lib.ListN.{get_or}
 use borrow.Author.Tests.{eqb-true}

@@ -1,6 +1,5 @@
 -- `group::next_missing` meets its contract: of the members passed none is missing. Assumes nothing.
 use mathlib.Core.Path.{sym, ap, ◌∙◌}
-use Prim.Native.Nat.{◌-◌}
 use borrow.Author.Tests.{eq-eqb, ne_eqb}
 use Rattle.window.specs.Group.{is_missing}
 use Rattle.group.proofs.Along.{member-next, place_is}

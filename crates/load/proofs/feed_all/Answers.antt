@@ -1,6 +1,5 @@
 -- `load::feed_all` meets its contract.
 use mathlib.Core.Path.{refl, sym, subst, ◌∙◌}
-use Prim.Native.Nat.{◌-◌}
 use native.Mathlib.Omega.{arith}
 use lib.ListN.{get_or}
 use Rattle.capture.specs.Stage.{skip_rest, run_at, run_end}

@@ -2,7 +2,6 @@
 use Rattle.capture.specs.Small.{size_small-after}
 use Rattle.capture.specs.Stage.{line-enter, line-line, line_refused}
 use mathlib.Core.Path.{sym, ◌∙◌}
-use Prim.Native.Nat.{◌-◌}
 use native.Mathlib.Omega.{arith}
 use Rattle.load.proofs.feed_line.Goals as goal
 

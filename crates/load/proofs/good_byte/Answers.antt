@@ -1,6 +1,5 @@
 -- `load::good_byte` meets its contract.
 use borrow.Author.Tests.{lt-ltb, le-ltb, eq-eqb, ne_eqb}
-use Prim.Native.Nat.{◌-◌}
 use Rattle.load.proofs.good_byte.Goals as goal
 
 pub returns-then-b-gt0 : goal.returns-then-b-gt0

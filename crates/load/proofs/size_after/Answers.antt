@@ -1,6 +1,5 @@
 -- `load::size_after` meets its contract.
 use borrow.Author.Tests.{lt-ltb, le-ltb}
-use Prim.Native.Nat.{◌-◌}
 use Rattle.load.proofs.size_after.Goals as goal
 
 pub returns-then-at-lt2 : goal.returns-then-at-lt2

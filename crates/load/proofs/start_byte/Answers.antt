@@ -1,6 +1,5 @@
 -- `load::start_byte` meets its contract.
 use borrow.Author.Tests.{eq-eqb, ne_eqb}
-use Prim.Native.Nat.{◌-◌}
 use Rattle.load.proofs.start_byte.Goals as goal
 
 pub returns-then-at-eq4 : goal.returns-then-at-eq4

@@ -1,6 +1,6 @@
 -- `moving::release_behind` meets its contract: after i turns each of the first i rows that begins behind is released. Assumes nothing.
 use mathlib.Core.Path.{◌≡◌, refl, ap, ◌∙◌}
-use Prim.Native.Nat.{ℕ, ◌-◌}
+use Prim.Native.Nat.{ℕ}
 use Rattle.window.specs.declared.Window.{Window}
 use Rattle.table.specs.View.{hand}
 use Rattle.table.specs.Laws.{length-same}

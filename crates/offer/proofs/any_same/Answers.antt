@@ -1,7 +1,6 @@
 -- `offer::any_same` meets its contract: after i turns the flag says whether one of the first i rows holds the same. Assumes nothing.
 use mathlib.Core.Path.{◌≡◌, refl, ap, ◌∙◌}
 use mathlib.Core.Bool.{Bool, ◌||◌}
-use Prim.Native.Nat.{◌-◌}
 use Rattle.window.proofs.Turn.{turn-any}
 use Rattle.table.specs.View.{hand}
 use Rattle.offer.specs.Rows.{row_same}

@@ -1,7 +1,6 @@
 -- `order::repeats` meets its contract: after j turns the flag says whether one of the first j rows is in use and names the group. Assumes nothing.
 use mathlib.Core.Path.{◌≡◌, refl, sym, ap, ◌∙◌}
 use mathlib.Core.Bool.{◌||◌}
-use Prim.Native.Nat.{◌-◌}
 use Rattle.window.proofs.Turn.{turn-any}
 use Rattle.window.specs.declared.Record.{Record}
 use Rattle.window.specs.Order.{used, same_group}

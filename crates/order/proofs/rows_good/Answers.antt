@@ -1,7 +1,7 @@
 -- `order::rows_good` meets its contract: after i turns the first i rows are looked at, and what is found noted. Assumes nothing.
 use mathlib.Core.Path.{refl, ap, ◌∙◌}
 use mathlib.Core.Bool.{true}
-use Prim.Native.Nat.{◌-◌, ◌%◌}
+use Prim.Native.Nat.{◌%◌}
 use lib.ListN.{length-set}
 use Rattle.table.specs.View.{hand}
 use Rattle.window.specs.declared.Record.{Record}

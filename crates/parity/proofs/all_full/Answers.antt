@@ -1,6 +1,5 @@
 -- `parity::all_full` meets its contract: after i turns the flag says that the first i rows are p bytes long. Assumes nothing.
 use mathlib.Core.Path.{◌≡◌, sym, ◌∙◌}
-use Prim.Native.Nat.{◌-◌}
 use lib.Dec.{eqb}
 use lib.ListN.{get_or}
 use borrow.Author.Tests.{eqb-true}

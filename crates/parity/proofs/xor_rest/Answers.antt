@@ -1,6 +1,5 @@
 -- `parity::xor_rest` meets its contract: one row a turn. Assumes nothing.
 use mathlib.Core.Path.{◌≡◌, refl, ◌∙◌}
-use Prim.Native.Nat.{◌-◌}
 use native.Mathlib.Omega.{arith}
 use Rattle.parity.proofs.Turns.{none_yet, rows_more}
 use Rattle.parity.proofs.xor_rest.Goals as goal

@@ -1,6 +1,6 @@
 -- `parity::xor_tens` meets its contract. Assumes nothing.
 use mathlib.Core.Path.{refl}
-use Prim.Native.Nat.{◌-◌, ◌+◌}
+use Prim.Native.Nat.{◌+◌}
 use native.Mathlib.Omega.{arith}
 use Rattle.parity.proofs.Turns.{none_yet, rows_more}
 use Rattle.parity.proofs.xor_tens.Goals as goal

@@ -1,6 +1,5 @@
 -- `parity::xor_timestamps` meets its contract: after i turns the sum is that of the first i rows. Assumes nothing.
 use mathlib.Core.Path.{◌≡◌, sym, ◌∙◌}
-use Prim.Native.Nat.{◌-◌}
 use native.Mathlib.Omega.{arith}
 use lib.ListN.{get_or}
 use lib.Bits.{xor_zero_r}

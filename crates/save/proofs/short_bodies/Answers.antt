@@ -1,6 +1,5 @@
 -- `save::short_bodies` meets its contract.
 use mathlib.Core.Path.{refl, sym, ◌∙◌}
-use Prim.Native.Nat.{◌-◌}
 use native.Mathlib.Omega.{arith}
 use Rattle.capture.specs.Calls.{short_body}
 use Rattle.save.proofs.Turns.{all-turn, all_end}

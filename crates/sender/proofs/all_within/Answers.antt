@@ -1,6 +1,5 @@
 -- `sender::all_within` meets its contract.
 use mathlib.Core.Path.{◌≡◌, refl, ◌∙◌}
-use Prim.Native.Nat.{◌-◌}
 use native.Mathlib.Omega.{arith}
 use lib.Dec.{leb}
 use Rattle.sender.proofs.Ways.{all-turn}

@@ -1,6 +1,5 @@
 -- `table::first_free` meets its contract: each row passed is in use, and its slot is its number. Assumes nothing.
 -- what holds before each turn
-use Prim.Native.Nat.{◌-◌}
 use native.Mathlib.Omega.{arith}
 use Rattle.table.specs.View.{hand}
 use Rattle.table.specs.Hold.{none_passed, elsewhere, unused, used-here, all-passed}

@@ -1,5 +1,5 @@
 -- the rows gathered of the records passed
-use Rattle.std.proofs.Common.{◌≡◌, ◌≤◌, ◌-◌, length}
+use Rattle.std.proofs.Common.{◌≤◌, ◌-◌}
 use Rattle.table.specs.View.{hand}
 use Rattle.table.specs.Gather.{gathered, Gathered}
 use Rattle.table.proofs.gather.Given as goal

@@ -16,5 +16,5 @@ loop-i-preserved c =
     let v = c.record_at.result in (
       omega arith,
       ap (λ t. set t s v) l.invariant.1
-      ∙ one-back hs a.m a.table.now c.requires.0 l.i s v (omega arith) l.invariant.0 (slot_of hs a.m a.table.now c.requires.0 (l.i - 1) s (omega arith) c.slot_at-s.ensures) c.record_at.ensures,
+          ∙ one-back hs a.m a.table.now c.requires.0 l.i s v (omega arith) l.invariant.0 (slot_of hs a.m a.table.now c.requires.0 (l.i - 1) s (omega arith) c.slot_at-s.ensures) c.record_at.ensures,
     )

@@ -2,7 +2,6 @@
 -- good. Assumes nothing.
 use mathlib.Core.Path.{◌≡◌, refl, sym, ap, ◌∙◌}
 use mathlib.Core.Bool.{Bool, ◌&&◌, and_assoc, and-true}
-use Prim.Native.Nat.{◌-◌}
 use lib.ListN.{get_or}
 use Rattle.sequence.specs.Lists.{up_to, all, count}
 use Rattle.window.specs.Order.{is_mark, is_present}

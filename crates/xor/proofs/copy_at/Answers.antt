@@ -1,6 +1,5 @@
 -- `xor::copy_at` meets its contract: after i turns dst is as it was with the first i bytes of the part pasted in. Assumes nothing.
 use mathlib.Core.Path.{◌≡◌, refl, sym, ◌∙◌}
-use Prim.Native.Nat.{◌-◌}
 use native.Mathlib.Omega.{arith}
 use lib.ListN.{drop, length-set}
 use lib.Seq.{paste-zero, get_or-drop}

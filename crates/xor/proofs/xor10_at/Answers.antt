@@ -1,6 +1,5 @@
 -- `xor::xor10_at` meets its contract, as `xor4_at` does with four parts. Assumes nothing.
 use mathlib.Core.Path.{◌≡◌, refl, ◌∙◌}
-use Prim.Native.Nat.{◌-◌}
 use native.Mathlib.Omega.{arith}
 use mathlib.Core.List.{[], ◌∷◌}
 use lib.ListN.{drop, length-set}

@@ -1,7 +1,6 @@
 -- `xor::xor4_at` meets its contract: after i turns dst is as it was with the first i bytes of the four times xored part pasted in, and that is one xor after another. Assumes nothing.
 use mathlib.Core.Path.{◌≡◌, refl, ◌∙◌}
 use mathlib.Core.List.{[], ◌∷◌}
-use Prim.Native.Nat.{◌-◌}
 use native.Mathlib.Omega.{arith}
 use lib.ListN.{drop, length-set}
 use lib.Seq.{paste-zero}

@@ -1,7 +1,6 @@
 -- `xor::xor_at` meets its contract: after i turns dst is as it was with the first i bytes of the xored part pasted in. Assumes nothing.
 use mathlib.Core.Path.{◌≡◌, refl, ◌∙◌}
 use mathlib.Core.List.{[], ◌∷◌}
-use Prim.Native.Nat.{◌-◌}
 use native.Mathlib.Omega.{arith}
 use lib.ListN.{drop, length-set}
 use lib.Seq.{paste-zero}

@@ -1,6 +1,6 @@
 -- `xor::zero_at` meets its contract: after i turns dst is as it was with i of the n zeros pasted in. Assumes nothing.
 use mathlib.Core.Path.{◌≡◌, refl, sym, ◌∙◌}
-use Prim.Native.Nat.{ℕ, ◌-◌}
+use Prim.Native.Nat.{ℕ}
 use native.Mathlib.Omega.{arith}
 use lib.ListN.{replicate, length-set, length-replicate, get_or-replicate}
 use lib.Seq.{paste-zero}

@@ -13,13 +13,13 @@ returns-then-fault-ne0 c =
     rw c.answered.ensures (offer-stops a.self a.datagram.now a.row a.column (lent a.payloads.now a.timestamps.now a.lengths.now a.longest.now) a.row_out.now a.column_out.now c.offer_fault-fault.result c.offer_fault-fault.ensures c.if-fault-ne0.true)
 
 pub send_column-columns-requires : goal.send_column-columns-requires
-send_column-columns-requires c = 
+send_column-columns-requires c =
     let a = c.args in
     let t = offer-taken a.self a.datagram.now (lent a.payloads.now a.timestamps.now a.lengths.now a.longest.now) (length a.row_out.now) (length a.column_out.now) (sym c.offer_fault-fault.ensures ∙ c.if-fault-ne0.false) in
     (t.ready, t.column-long)
 
 pub absorb-requires : goal.absorb-requires
-absorb-requires c = 
+absorb-requires c =
     let a = c.args in
     let t = offer-taken a.self a.datagram.now (lent a.payloads.now a.timestamps.now a.lengths.now a.longest.now) (length a.row_out.now) (length a.column_out.now) (sym c.offer_fault-fault.ensures ∙ c.if-fault-ne0.false) in
     (t.ready, t.payload)
@@ -31,7 +31,7 @@ send_row-rows-requires c =
     (subst (Ready a.self) (sym c.absorb.ensures) (ready-absorbed a.self (lent a.payloads.now a.timestamps.now a.lengths.now a.longest.now) a.datagram.now t.ready t.payload), t.row-long)
 
 pub onward-requires : goal.onward-requires
-onward-requires c = 
+onward-requires c =
     let a = c.args in
     let t = offer-taken a.self a.datagram.now (lent a.payloads.now a.timestamps.now a.lengths.now a.longest.now) (length a.row_out.now) (length a.column_out.now) (sym c.offer_fault-fault.ensures ∙ c.if-fault-ne0.false) in
     (t.ready.set_up, t.ready.at_low)

@@ -1,8 +1,6 @@
 -- `window::Window::count_present` meets its contract: the blocks passed are counted, and the flag says whether they are good. Assumes nothing.
 use mathlib.Core.Path.{◌≡◌, refl, ap, ◌∙◌}
 use mathlib.Core.Bool.{Bool, ◌&&◌}
-use Prim.Native.Nat.{◌-◌}
-use Rattle.sequence.specs.Lists.{all}
 use Rattle.window.specs.Order.{is_mark, is_present}
 use Rattle.window.proofs.Turn.{few}
 use native.Mathlib.Omega.{arith}
