@@ -19,8 +19,10 @@ use Rattle.calls.specs.Settle.{round, settle}
 use Rattle.calls.specs.Accept.{first_free, take_parity}
 use Rattle.calls.specs.Call.{Outcome, settled}
 use Rattle.peel.specs.Group as Peel
-use Rattle.peel.specs.Peel.{Offer, media, check, View, gone, miss, Take, pass, Spoilt, Step, Runs, done, took, made, runs_then, steps-run, Spoiling, spoiling_then}
-use Rattle.peel.specs.Rest.{Still, rounds, rounds-keep, rounds-steps, rounds-clear, rounds-still}
+use Rattle.peel.specs.Peel.{Offer, media, check, View, gone, miss, Take, Spoilt, Step, Runs, done, took, made, Spoiling}
+use Rattle.peel.proofs.Peel.{pass, runs_then, steps-run, spoiling_then}
+use Rattle.peel.specs.Rest.{Still, rounds}
+use Rattle.peel.proofs.Rest.{rounds-keep, rounds-steps, rounds-clear, rounds-still}
 use Rattle.guarantee.specs.Ranges.{count-not, count_raise, first-kept, up_to-lt}
 use Rattle.guarantee.specs.Packets.{Packet, packet_of}
 use Rattle.guarantee.specs.Lengths.{Clean, clean_size}

@@ -9,8 +9,9 @@ use Rattle.calls.specs.State.{State}
 use Rattle.calls.specs.Settle.{round}
 use Rattle.peel.specs.Peel as Peel
 use Rattle.peel.specs.Peel.{View, Steps, Has}
-use Rattle.peel.specs.Rest.{Still, rounds, rounds-steps, rounds-clear, rounds_quiet, rounds_spend, Quiet, budgets_quiet}
-use Rattle.peel.specs.Theorem.{never-spoilt, engines_agree}
+use Rattle.peel.specs.Rest.{Still, rounds}
+use Rattle.peel.proofs.Rest.{rounds-steps, rounds-clear, rounds_quiet, rounds_spend, Quiet, budgets_quiet}
+use Rattle.peel.proofs.Theorem.{never-spoilt, engines_agree}
 use Rattle.guarantee.specs.Packets.{Packet}
 use Rattle.guarantee.specs.View.{Limits, code, view}
 use Rattle.guarantee.specs.Rounds.{Working, done_by, engine}

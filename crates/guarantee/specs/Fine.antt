@@ -20,7 +20,8 @@ use Rattle.calls.specs.Content.{Recovery, recovery_at}
 use Rattle.calls.specs.State.{recount}
 use Rattle.calls.specs.Call.{Outcome, holds, contradicts, parity_offer_tests, offered_media, offered_parity}
 use Rattle.calls.specs.Passed.{media-passed, parity-passed, media-passes, parity-passes}
-use Rattle.peel.specs.Peel.{Offer, check, Full, Here, pass, Runs, done, took, Spoiling, sound-has, sound-runs}
+use Rattle.peel.specs.Peel.{Offer, check, Full, Here, Runs, done, took, Spoiling}
+use Rattle.peel.proofs.Peel.{pass, sound-has, sound-runs}
 use Rattle.guarantee.specs.Ranges.{decide, any_none, any_some, up_to-lt, Out, take_out, pigeon}
 use Rattle.guarantee.specs.Packets.{Packet}
 use Rattle.guarantee.specs.View.{group-lt, code, check_at, Held, view, miss-mark}

@@ -9,7 +9,7 @@ use Rattle.window.specs.Store.{Store}
 use Rattle.window.specs.Group.{group, inside, is_missing}
 use Rattle.calls.specs.Content.{Content, content_at, Recovery, same_recovery, recovery_at, longest, recovery_over}
 use Rattle.peel.specs.Peel as Theory
-use Rattle.peel.specs.Theorem.{right, run-inv}
+use Rattle.peel.proofs.Theorem.{right, run-inv}
 use Rattle.guarantee.specs.Ranges.{any_none}
 use Rattle.guarantee.specs.Packets.{Packet, packet-content}
 use Rattle.guarantee.specs.View.{Limits, group-lt, code, check_at, packet_at, view, slot-present, Good, content-whole}

@@ -21,6 +21,7 @@ use Rattle.calls.specs.Standing.{Standing}
 use Rattle.calls.specs.Passed.{media-passed, parity-passed, read-passed, write_passed}
 use Rattle.peel.specs.Group as Peel
 use Rattle.peel.specs.Peel as Theory
+use Rattle.peel.proofs.Peel as TheoryLaws
 use Rattle.guarantee.specs.Packets.{Whole, Packet, xored, zeros, packet_of, content_from, length-first, content_from_lem, packet-content, packet-xor, packet-total, whole-xor, whole_xors}
 use Rattle.guarantee.specs.Lengths.{length-padded}
 use Rattle.guarantee.specs.View.{code, packet_at, view, slot-present, slot_is, Good, content-whole, recovery_whole, mark-one}
@@ -158,7 +159,7 @@ made_due o w s based i h e = go (moves o.datagram w s based o.port)
     go (inl q) = rw q (stood i h (ap (λ z. mark_at z i) (sym q) ∙ e))
     go (inr M) =
         let n : is_missing t.marks i ≡ false = rw e in
-        let v = Theory.sound-runs (code w) (Theory.sound-has (code w) (view w s)) M.runs in
+        let v = TheoryLaws.sound-runs (code w) (TheoryLaws.sound-has (code w) (view w s)) M.runs in
         subst (Due w o s i) (content_from_lem w.p (content_at w t i) (content-whole w t i))
         (known-due o w s M (v.known i (packet_at w t i) (slot-present w t i h n))).0
 
@@ -173,7 +174,7 @@ made_stays o w s based i h e = go (moves o.datagram w s based o.port)
     go (inl q) = rw q (e, refl)
     go (inr M) =
         let n : is_missing s.marks i ≡ false = rw e in
-        let z = slot_is w t i (packet_at w s i) (Theory.runs-keep (code w) M.runs i (packet_at w s i) (slot-present w s i h n)) in (
+        let z = slot_is w t i (packet_at w s i) (TheoryLaws.runs-keep (code w) M.runs i (packet_at w s i) (slot-present w s i h n)) in (
           mark-one M.after i h z.1,
           packet-content (content_at w t i) (content_at w s i)
               (content-whole w t i) (content-whole w s i) (sym z.2),

@@ -19,7 +19,8 @@ use Rattle.calls.specs.State.{State, scene, recount, rebuild, count_spoilt, rele
 use Rattle.calls.specs.Settle.{ready, rank, better, next_below, next, spent as idle, release_all, fits_at, rebuild_by, round_by, round}
 use Rattle.peel.specs.Group.{count_none}
 use Rattle.peel.specs.Peel.{gone, miss, Spoilt, Steps, stop, go_on}
-use Rattle.peel.specs.Rest.{Still, Engine, steps_then}
+use Rattle.peel.specs.Rest.{Still, Engine}
+use Rattle.peel.proofs.Rest.{steps_then}
 use Rattle.guarantee.specs.View.{code, check_at, member-lt, Held, view, miss-count, Good, recovery_whole, Missing, held-count}
 use Rattle.guarantee.specs.Moves.{single, Solved, solved, rebuilt_in, spoilt-by, rebuild-good, rebuild-full, step_rebuild, freed, freed-other, freed-same, freed-fewer, freed-good, step_free, freed-full}
 

@@ -19,6 +19,7 @@ use Rattle.calls.specs.State.{recount}
 use Rattle.calls.specs.Call.{Outcome}
 use Rattle.calls.specs.Standing.{standing-good}
 use Rattle.peel.specs.Peel as Theory
+use Rattle.peel.proofs.Peel as TheoryLaws
 use Rattle.guarantee.specs.Ranges.{up_to-mem, keep-mem}
 use Rattle.guarantee.specs.Packets.{Packet}
 use Rattle.guarantee.specs.View.{code, view}
@@ -57,9 +58,9 @@ module _ (w : Window) (D : List (ℕ × ℕ)) where
       → Goes w D os s x → Arrived ps x.store answered y → Arrived (os ++ ps) s (x.answer ∷ answered) y
   call_then {os} {ps} {s} {answered} {x} a b = record {
     fine = b.fine;
-    runs = Theory.runs_then (code w) a.runs b.runs;
-    clear = λ z m. ⊎_elim (λ e. ⊎_elim (λ c. inl (ap spoilt_of e ∙ c)) (λ c. inr (Theory.spoiling_more (code w) ps c)) a.clear)
-        (λ n. ⊎_elim inl (λ c. inr (Theory.spoiling_then (code w) a.runs c)) (b.clear z n)) (Memᴰ.cases_cons m);
+    runs = TheoryLaws.runs_then (code w) a.runs b.runs;
+    clear = λ z m. ⊎_elim (λ e. ⊎_elim (λ c. inl (ap spoilt_of e ∙ c)) (λ c. inr (TheoryLaws.spoiling_more (code w) ps c)) a.clear)
+        (λ n. ⊎_elim inl (λ c. inr (TheoryLaws.spoiling_then (code w) a.runs c)) (b.clear z n)) (Memᴰ.cases_cons m);
     believed = λ z m. ⊎_elim (λ e. ⊎_elim (λ c. inl (λ q. c (ap number_of (sym e) ∙ q))) (λ c. inr (lying-more ps c)) a.believed)
         (λ n. ⊎_elim inl (λ c. inr (lying-then a.runs c)) (b.believed z n)) (Memᴰ.cases_cons m);
   }

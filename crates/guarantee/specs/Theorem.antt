@@ -18,7 +18,7 @@ use Rattle.calls.specs.Call.{Outcome, standing_tests, asked, cleared, opened}
 use Rattle.calls.specs.Passed.{none_first}
 use Rattle.peel.specs.Peel as Theory
 use Rattle.peel.specs.Rest.{Still}
-use Rattle.peel.specs.Theorem.{stopping, missing_iff, same, never-spoilt}
+use Rattle.peel.proofs.Theorem.{stopping, missing_iff, same, never-spoilt}
 use Rattle.guarantee.specs.Ranges.{decide, keep_ext, count-keep}
 use Rattle.guarantee.specs.Packets.{Packet}
 use Rattle.guarantee.specs.Lengths.{padded-front, units_le}

@@ -1,4 +1,3 @@
 pub mod Group
 pub mod Peel
 pub mod Rest
-pub mod Theorem

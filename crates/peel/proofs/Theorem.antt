@@ -1,12 +1,12 @@
 -- What every receiver shares that did only what specs/Peel.antt allows and has come to rest, whatever its engine:
--- what it has was sent (right), what it lacks no engine could rebuild (missing_iff), and neither the order of the offers nor
--- the engine matters (same, engines_agree).
 use Rattle.std.specs.Prelude.{◌≡◌, refl, ◌↔◌, ◌≢◌, ◌⊎◌, Bool, true, false, List, [], ℕ}
 use Rattle.std.proofs.Common.{sym, ◌∙◌, ap, inl, inr, ⊎_elim, true≢false, arith}
 use Rattle.std.proofs.Math.Option.{Option, none, some}
 use Rattle.peel.specs.Group.{count, count_none}
-use Rattle.peel.specs.Peel.{Code, Offer, media, check, Set, Plus, Covered, View, gone, miss, there, Has, Full, Steps, Runs, steps-run, Spoiling, Stopping, stopping-fewer, known-outside, Sound, Unaltered, known-sent, Inv, inv-has, unspoilt, inv-runs}
-use Rattle.peel.specs.Rest.{Still, agree}
+use Rattle.peel.specs.Peel.{Code, Offer, media, check, Set, Plus, Covered, View, gone, miss, Has, Full, Steps, Runs, Spoiling, Stopping, Sound, Unaltered, Inv}
+use Rattle.peel.proofs.Peel.{there, steps-run, stopping-fewer, known-outside, known-sent, inv-has, unspoilt, inv-runs}
+use Rattle.peel.specs.Rest.{Still}
+use Rattle.peel.proofs.Rest.{agree}
 
 module _ {K C X : Type 0} (P : Code K C X) where
   -- what stands at a position was sent there, at rest or not, if what was received is unaltered
