@@ -79,13 +79,3 @@ number_over part marks group number = bit_xor number (xor_all (map (λ i. get_or
 -- a payload xored with those held of a group
 abbrev pub payload_over : (p : ℕ) (media lengths marks group : List ℕ) → List ℕ → List ℕ
 payload_over p media lengths marks group payload = zip_xor payload (xor_payloads p (map (λ i. payload_in p media (get_or lengths i 0) i) (present marks group)))
-
--- these are its cells
-pub content-cells : (w : Window) (s : Store) (group : List ℕ) (c : Content)
-    → content_over w s group c
-    ≡ record {
-      timestamp = number_over s.timestamps s.marks group c.timestamp;
-      length = number_over s.lengths s.marks group c.length;
-      payload = payload_over w.p s.media s.lengths s.marks group c.payload;
-    }
-content-cells w s group c = refl

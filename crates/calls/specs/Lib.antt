@@ -6,6 +6,4 @@ pub mod Accept
 pub mod Call
 pub mod Standing
 pub mod Move
-pub mod Down
 pub mod Passed
-pub mod Rest

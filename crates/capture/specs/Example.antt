@@ -5,32 +5,20 @@ use Rattle.capture.specs.Content.{Content, file_of}
 use Rattle.capture.specs.Stage.{judge}
 use Rattle.capture.specs.Reads.{content_of}
 
-abbrev example : List ℕ
+abbrev pub example : List ℕ
 example =
     0x00 ∷ 0x01 ∷ 0x04 ∷ 0x04 ∷ 0x00 ∷ 0xBC ∷ 0xFF ∷ 0xFA ∷ 0x00 ∷ 0x10 ∷ 0x00 ∷ 0x08
     ∷ 0x01 ∷ 0x00 ∷ 0x00 ∷ 0x02 ∷ 0x00 ∷ 0x00 ∷ 0x00 ∷ 0x14
     ∷ 0xAB ∷ 0xCD ∷ []
 
-abbrev content : Content
+abbrev pub content : Content
 content = record { l = 4; d = 4; p = 188; base = 65530; n = 16; k = 8; entries = record { port = 1; body = 0xAB ∷ 0xCD ∷ [] } ∷ [] }
-
-example-accepted : judge example ≡ true
-unfolding judge
-example-accepted = refl
-
-example-read : content_of example ≡ content
-unfolding content_of
-example-read = refl
-
-example-written : file_of content ≡ example
-unfolding file_of
-example-written = refl
 
 -- which bytes may stand at a place of the example in place of its own: numbers of the header, and the port
 abbrev may : (i v : ℕ) → Bool
 may i v = eqb v (byte example i) || (leb 2 i && ltb i 12) || (eqb i 12 && leb 1 v && leb v 3)
 
-same : Bool → Bool → Bool
+unfoldable pub same : Bool → Bool → Bool
 same true b = b
 same false b = not b
 
@@ -39,11 +27,6 @@ abbrev values : (i v : ℕ) → ℕ → Bool
 values i v zero = true
 values i v (suc m) = same (judge (set example i v)) (may i v) && values i (suc v) m
 
-abbrev places : (i : ℕ) → ℕ → Bool
+abbrev pub places : (i : ℕ) → ℕ → Bool
 places i zero = true
 places i (suc m) = values i 0 256 && places (suc i) m
-
--- each change of one of the first 20 bytes is judged so
-changes : places 0 20 ≡ true
-unfolding judge same
-changes = refl

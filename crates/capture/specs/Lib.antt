@@ -2,11 +2,9 @@ pub mod Bytes
 pub mod Content
 pub mod Stage
 pub mod Small
-pub mod Accepts
 pub mod Refuses
 pub mod Reads
 pub mod Calls
 pub mod Parts
-pub mod Theorem
 pub mod Claims
 pub mod Example

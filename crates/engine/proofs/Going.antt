@@ -11,7 +11,7 @@ use Rattle.window.specs.declared.Window.{Window}
 use Rattle.window.specs.Limits.{most_counted}
 use Rattle.calls.specs.State.{scene, recount}
 use Rattle.calls.specs.Settle.{next, round, round_by, settle}
-use Rattle.calls.specs.Rest.{rounds-rest}
+use Rattle.calls.proofs.Rest.{rounds-rest}
 use Rattle.table.specs.View.{slots}
 use Rattle.table.specs.Apart.{Fits, same-fits}
 use Rattle.engine.specs.declared.Round.{Round}

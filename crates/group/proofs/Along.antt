@@ -8,8 +8,10 @@ use native.Mathlib.Numerals.{add-one}
 use native.Mathlib.Omega.{arith}
 use lib.ListN.{length, take, set}
 use lib.Seq.{take-suc-set}
-use Rattle.sequence.specs.Lists.{up_to, keep, keep_append, map-append}
-use Rattle.sequence.specs.Wrap.{ahead, member, member-suc}
+use Rattle.sequence.specs.Lists.{up_to, keep}
+use Rattle.sequence.proofs.Lists.{keep_append, map-append}
+use Rattle.sequence.specs.Wrap.{ahead, member}
+use Rattle.sequence.proofs.Wrap.{member-suc}
 use Rattle.rtp.specs.Fec.{offset_of, na_of}
 use Rattle.window.specs.declared.Window.{Window}
 use Rattle.window.specs.Limits.{width, most_side}

@@ -9,7 +9,8 @@ use lib.Dec.{eqb}
 use lib.ListN.{length, get_or, take, drop, replicate, length-drop, length-take, length-replicate}
 use lib.Seq.{paste, length-take-le}
 use borrow.Author.Tests.{eq-eqb, ne_eqb}
-use Rattle.sequence.specs.Lists.{any, or_split}
+use Rattle.sequence.specs.Lists.{any}
+use Rattle.sequence.proofs.Lists.{or_split}
 use Rattle.xor.specs.Xor.{zip_xor, xor_all, xor_payloads, padded}
 use Rattle.xor.specs.Same.{same}
 use Rattle.xor.specs.Padded.{length-padded, padded-zeros, padded_twice, zip-padded, same-padded, take-front}

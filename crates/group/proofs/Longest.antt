@@ -8,7 +8,7 @@ use native.Mathlib.Nat.{max-le}
 use native.Mathlib.Omega.{arith}
 use lib.ListN.{length, get_or, take}
 use lib.Seq.{take-suc}
-use Rattle.sequence.specs.Lists.{map-append}
+use Rattle.sequence.proofs.Lists.{map-append}
 use Rattle.window.specs.Group.{is_missing, present}
 use Rattle.calls.specs.Content.{longest}
 use Rattle.group.specs.Held.{Below}

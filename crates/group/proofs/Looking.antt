@@ -9,7 +9,8 @@ use native.Mathlib.Numerals.{add-one}
 use native.Mathlib.Omega.{arith}
 use lib.ListN.{length, drop, length-map, drop_of_length-le}
 use lib.Seq.{drop-append-le, drop_at}
-use Rattle.sequence.specs.Lists.{up_to, map-append, length-up_to}
+use Rattle.sequence.specs.Lists.{up_to}
+use Rattle.sequence.proofs.Lists.{map-append, length-up_to}
 use Rattle.window.specs.declared.Look.TheVariants.{None, One, More}
 use Rattle.window.specs.Group.{is_missing, missing}
 use Rattle.window.specs.Look.{to_first, to_second, look}

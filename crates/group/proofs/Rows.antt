@@ -7,7 +7,8 @@ use native.Mathlib.Nat.{mul-le-mul_right, suc-mul}
 use native.Mathlib.Omega.{arith}
 use lib.ListN.{length, get_or, take, drop, replicate, length-drop, length-replicate}
 use lib.Seq.{paste, get_or-take, take_all, length-take-le, length-paste}
-use Rattle.sequence.specs.Lists.{up_to, keep, map-append}
+use Rattle.sequence.specs.Lists.{up_to, keep}
+use Rattle.sequence.proofs.Lists.{map-append}
 use Rattle.rtp.specs.Fec.{offset_of, na_of}
 use Rattle.parity.specs.Rows.{Rows, row_of}
 use Rattle.parity.specs.Own.{length_own, length-sum}

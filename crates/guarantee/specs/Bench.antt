@@ -5,7 +5,7 @@ use Rattle.answer.specs.First.{first}
 use Rattle.peel.specs.Rest.{rounds}
 use Rattle.xor.specs.Xor.{xor_all, xor_payloads}
 use Rattle.xor.specs.Same.{same, same-eq}
-use Rattle.sequence.specs.Lists.{and_split as both}
+use Rattle.sequence.proofs.Lists.{and_split as both}
 use Rattle.sequence.specs.Wrap.{number_at, members}
 use Rattle.rtp.specs.Fec.{column, row, offset_of, na_of, fec_header}
 use Rattle.window.specs.declared.Window.{Window}
@@ -41,27 +41,27 @@ abbrev fresh : Window → Outcome
 fresh w = opened w (uncleared_store w)
 
 -- the number that an opening answers, with n = L × D, K = 1
-opening : (l d p : ℕ) → ℕ
+unfoldable pub opening : (l d p : ℕ) → ℕ
 opening l d p = number_of (fresh (asked 0 0 l d p (l * d) 1)).answer
 
 -- the window of cases 5 and 6: base 65,530, n = 16, L = D = 4; P = 188, K = 1
-grid : Outcome
+unfoldable pub grid : Outcome
 grid = fresh (asked 65530 0 4 4 188 16 1)
 
 -- what every parity packet takes from its sender
-outer : Outer
+unfoldable pub outer : Outer
 outer = record { sequence = 7; timestamp = 0; ssrc = 0 }
 
 -- case 7's timestamps
-timestamps : List ℕ
+unfoldable pub timestamps : List ℕ
 timestamps = 1000 ∷ 2000 ∷ 3000 ∷ 4000 ∷ []
 
 -- a payload of zeros
-zeros : List ℕ
+unfoldable pub zeros : List ℕ
 zeros = replicate 188 0
 
 -- the parity packet of a group of four packets with these timestamps and payloads of zeros
-parity : (timestamps : List ℕ) (stream snbase : ℕ) → List ℕ
+unfoldable pub parity : (timestamps : List ℕ) (stream snbase : ℕ) → List ℕ
 parity timestamps stream snbase =
     parity_packet outer stream 4 4 snbase
     (record {
@@ -70,50 +70,50 @@ parity timestamps stream snbase =
     })
 
 -- the number that a parity packet is answered with on that window
-offer : (stream snbase : ℕ) → ℕ
+unfoldable pub offer : (stream snbase : ℕ) → ℕ
 offer stream snbase = number_of (offered_parity stream grid.window (parity timestamps stream snbase) grid.store).answer
 
 -- a media packet is offered, with a payload of zeros
-media : (number timestamp : ℕ) → Outcome → Outcome
+unfoldable pub media : (number timestamp : ℕ) → Outcome → Outcome
 media number timestamp x = offered_media x.window (media_packet number 0 (record { timestamp = timestamp; length = 188; payload = zeros })) x.store
 
 -- case 4's group on that window, the packet with 4,000 missing, then its column parity
-rebuilt : Outcome
+unfoldable pub rebuilt : Outcome
 rebuilt =
     let x = media 2 3000 (media 65534 2000 (media 65530 1000 grid)) in
     offered_parity column x.window (parity timestamps column 65530) x.store
 
 -- case 10: base 0, L = D = 4, n = 16, K = 8, and all timestamps and payloads zero
-square : Outcome
+unfoldable pub square : Outcome
 square = fresh (asked 0 0 4 4 188 16 8)
 
 -- the parity packets of the groups of a stream that start at these positions are offered
-parities : (stream : ℕ) → List ℕ → Outcome → Outcome
+unfoldable pub parities : (stream : ℕ) → List ℕ → Outcome → Outcome
 parities stream [] x = x
 parities stream (i ∷ l) x =
     parities stream l (offered_parity stream x.window (parity (0 ∷ 0 ∷ 0 ∷ 0 ∷ []) stream (number_at width x.window.base i)) x.store)
 
 -- the media packets of these positions are offered
-medias : List ℕ → Outcome → Outcome
+unfoldable pub medias : List ℕ → Outcome → Outcome
 medias [] x = x
 medias (i ∷ l) x = medias l (media (number_at width x.window.base i) 0 x)
 
 -- all aligned rows and columns, then all media but 0, 1, 4 and 5
-corners : Outcome
+unfoldable pub corners : Outcome
 corners =
     medias (2 ∷ 3 ∷ 6 ∷ 7 ∷ 8 ∷ 9 ∷ 10 ∷ 11 ∷ 12 ∷ 13 ∷ 14 ∷ 15 ∷ [])
     (parities column (aligned_columns 4 4 0) (parities row (aligned_rows 4 4 0) square))
 
 -- case 11: case 10, then media 5 arrives
-late : Outcome
+unfoldable pub late : Outcome
 late = media 5 0 corners
 
 -- case 12: the numbers of the first staggered column for r at L = 4, D = 5, where packets are numbered from 1
-staggered : (r : ℕ) → List ℕ
+unfoldable pub staggered : (r : ℕ) → List ℕ
 staggered r = members width (number_at width 1 (staggered_column 4 5 0 r)) (offset_of column 4) (na_of column 4 5)
 
 -- the table
-pub cases : List Case
+unfoldable pub cases : List Case
 cases =
     record { number = 1; got = opening 20 5 188 ∷ opening 1 4 188 ∷ []; said = 0 ∷ 0 ∷ [] }
     ∷ record { number = 1; got = opening 20 6 188 ∷ opening 21 4 188 ∷ opening 4 3 188 ∷ []; said = 1 ∷ 1 ∷ 1 ∷ [] }
@@ -139,23 +139,7 @@ cases =
     ∷ record { number = 12; got = staggered 1; said = 6 ∷ 10 ∷ 14 ∷ 18 ∷ 22 ∷ [] }
     ∷ []
 
--- the test that is computed over the whole table
-agree : List Case → Bool
-agree [] = true
-agree (c ∷ cs) = same c.got c.said && agree cs
-
 -- what the definitions give is what the document says, in each case
 abbrev pub Agreed : List Case → Type 0
 Agreed [] = Unit
 Agreed (c ∷ cs) = (c.got ≡ c.said) × Agreed cs
-
--- where the test holds, they are equal
-agreed : (cs : List Case) → agree cs ≡ true → Agreed cs
-unfolding agree
-agreed [] e = tt
-agreed (c ∷ cs) e = let h = both (same c.got c.said) (agree cs) e in (same-eq c.got c.said h.0, agreed cs h.1)
-
--- the bench
-pub bench : Agreed cases
-unfolding cases agree opening grid outer timestamps zeros parity offer media rebuilt square parities medias corners late staggered first opened offered_media offered_parity disorder settle round next release_all rebuild rounds
-bench = agreed cases refl

@@ -15,42 +15,19 @@ use Rattle.calls.specs.Call.{Outcome, refused, opened, offered_media, offered_pa
 use Rattle.guarantee.specs.Demand3.{run, recovery_sent}
 use Rattle.guarantee.specs.Night.{window, lent, ts_packet, stretch, outer, media}
 
--- the whole column is present
-pub present : Outcome
-present = run (opened window lent) (media 0 ∷ media 4 ∷ media 8 ∷ media 12 ∷ [])
-
 -- what it gives: timestamp recovery 15,872, length recovery 0, and 376 bytes of payload, the last of them 8
-abbrev true-one : Recovery
+abbrev pub true-one : Recovery
 true-one = recovery_sent window stretch (group window column 65530)
 
--- so it is
-pub true_numbers : (true-one.content.timestamp ≡ 15872) × (true-one.content.length ≡ 0) × (true-one.size ≡ 376) × (get_or true-one.content.payload 375 0 ≡ 8)
-unfolding stretch ts_packet
-true_numbers = (refl, refl, refl, refl)
-
 -- the column with another timestamp recovery, length recovery, payload, or length of the payload
-other : (timestamp length : ℕ) (payload : List ℕ) (size : ℕ) → Recovery
+unfoldable pub other : (timestamp length : ℕ) (payload : List ℕ) (size : ℕ) → Recovery
 other timestamp length payload size = record { content = record { timestamp = timestamp; length = length; payload = payload }; size = size }
 
 -- the last bit of the timestamp recovery is another; that of the length recovery; that of the payload; or the payload's second half is left out
-pub others : List Recovery
+unfoldable pub others : List Recovery
 others =
     other 15873 0 true-one.content.payload 376
     ∷ other true-one.content.timestamp 1 true-one.content.payload 376
     ∷ other true-one.content.timestamp 0 (set true-one.content.payload 375 9) 376
     ∷ other true-one.content.timestamp 0 true-one.content.payload 188
     ∷ []
-
--- the column with that is offered
-pub told : Recovery → Outcome
-told v = offered_parity column present.window (parity_packet outer column 4 4 65530 v) present.store
-
--- the true one is accepted, and leaves all as it was
-pub true-accepted : told true-one ≡ record { answer = Done 0 0; window = present.window; store = present.store }
-unfolding told present run media outer stretch ts_packet first opened offered_media offered_parity disorder settle round next release_all rebuild rounds
-true-accepted = refl
-
--- each of the others is refused with 18, and leaves all as it was
-pub others-refused : map told others ≡ replicate 4 (refused 18 present.window present.store)
-unfolding told present others other run media outer stretch ts_packet first opened offered_media offered_parity disorder settle round next release_all rebuild rounds
-others-refused = refl

@@ -17,23 +17,3 @@ pub record RefusedOutput (out : List ℕ) (x : Written) : Type 0 where
   pub answer : x.answer ≡ Refused 1
   pub window : x.window ≡ no_window
   pub output : x.out ≡ out
-
--- no media datagram is taken in
-pub media-refused : (datagram : List ℕ) (s : Store) → RefusedOffer s (offered_media no_window datagram s)
-unfolding offered_media first
-media-refused datagram s = record { answer = refl; window = refl; store = refl }
-
--- no parity datagram, on either port
-pub parity-refused : (stream : ℕ) (datagram : List ℕ) (s : Store) → RefusedOffer s (offered_parity stream no_window datagram s)
-unfolding offered_parity first
-parity-refused stream datagram s = record { answer = refl; window = refl; store = refl }
-
--- no number is read out
-pub read-refused : (number : ℕ) (s : Store) (out : List ℕ) → RefusedOutput out (read_out no_window number s out)
-unfolding read_out first
-read-refused number s out = record { answer = refl; window = refl; output = refl }
-
--- no parity is written, of a column or of a row
-pub write_refused : (stream snbase : ℕ) (o : Outer) (s : Store) (out : List ℕ) → RefusedOutput out (wrote_parity stream no_window snbase o s out)
-unfolding wrote_parity first
-write_refused stream snbase o s out = record { answer = refl; window = refl; output = refl }

@@ -5,7 +5,7 @@ use mathlib.Core.List.{List}
 use Prim.Native.Nat.{ℕ, ◌+◌, ◌*◌, ◌≤◌, ◌<◌}
 use borrow.Author.Tests.{ltb-true, leb-true, le-leb, lt-leb, eq-eqb, ne_eqb}
 use lib.Dec.{ltb, leb}
-use Rattle.sequence.specs.Lists.{and_split}
+use Rattle.sequence.proofs.Lists.{and_split}
 use Rattle.capture.specs.declared.Reader.{Reader}
 use Rattle.capture.specs.declared.Reading.{Reading}
 use Rattle.capture.specs.Content.{header_size, line_size, most_entries, most_body}

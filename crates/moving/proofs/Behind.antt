@@ -8,7 +8,8 @@ use native.Mathlib.Omega.{arith}
 use lib.Dec.{ltb}
 use lib.ListN.{length}
 use borrow.Author.Tests.{lt-ltb, le-ltb, ltb-true, ltb-false}
-use Rattle.sequence.specs.Lists.{up_to, any, any-map, any_false, false-any}
+use Rattle.sequence.specs.Lists.{up_to, any}
+use Rattle.sequence.proofs.Lists.{any-map, any_false, false-any}
 use Rattle.sequence.specs.Line.{line}
 use Rattle.rtp.specs.Fec.{offset_of, na_of}
 use Rattle.window.specs.declared.Record.{Record}

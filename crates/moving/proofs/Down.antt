@@ -10,7 +10,7 @@ use lib.ListN.{length, get_or, set, take, drop, replicate, length-append, length
 use lib.Seq.{paste, take_all, take_at, drop_at, take-add, drop-drop, length-take-le, get_or-drop, get_or-append-add, set_at, take-suc, drop-cons, append_snoc}
 use borrow.Author.Tests.{ltb-true, ltb-false}
 use Rattle.calls.specs.Move.{moved_down}
-use Rattle.calls.specs.Down.{length-kept, length_moved, moved_at, moved_new}
+use Rattle.calls.proofs.Down.{length-kept, length_moved, moved_at, moved_new}
 
 -- a block read into a buffer and written from there is a part of the list
 pub over_block : (part block : List ℕ) (to from n : ℕ) → from + n ≤ length part → paste part to (drop 0 (paste block 0 (drop from part) n)) n ≡ paste part to (drop from part) n

@@ -13,7 +13,8 @@ use borrow.Author.Tests.{eq-eqb, ne_eqb}
 use Rattle.xor.specs.Xor.{padded}
 use Rattle.xor.specs.Padded.{length-padded, padded_split, padded-front}
 use Rattle.xor.specs.Laid.{laid}
-use Rattle.sequence.specs.Lists.{up_to, count-more, length-up_to, map-append}
+use Rattle.sequence.specs.Lists.{up_to}
+use Rattle.sequence.proofs.Lists.{count-more, length-up_to, map-append}
 use Rattle.sequence.specs.Wrap.{number_at}
 use Rattle.rtp.specs.Rtp.{rtp_header, rtp_header_size, media_type}
 use Rattle.window.specs.declared.Window.{Window}
@@ -23,7 +24,7 @@ use Rattle.window.specs.Group.{is_missing}
 use Rattle.calls.specs.Call.{over}
 use Rattle.calls.specs.Content.{content_at}
 use Rattle.calls.specs.Datagram.{media_packet}
-use Rattle.calls.specs.Down.{length-slots}
+use Rattle.calls.proofs.Down.{length-slots}
 use Rattle.calls.specs.Move.{slot_size, leaving, leaving_slots, leaving_sizes, leaving_count}
 
 -- ---- one packet

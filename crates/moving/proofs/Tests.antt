@@ -8,7 +8,7 @@ use lib.Dec.{ltb}
 use lib.ListN.{length}
 use borrow.Author.Tests.{ltb-false}
 use Rattle.answer.specs.First.{first, first_hit, first_past, first_stops, first_goes}
-use Rattle.sequence.specs.Lists.{or_split}
+use Rattle.sequence.proofs.Lists.{or_split}
 use Rattle.window.specs.declared.Sizes.{Sizes}
 use Rattle.window.specs.declared.Window.{Window}
 use Rattle.window.specs.Limits.{set_up_tests}

@@ -23,7 +23,7 @@ use Rattle.xor.specs.Xor.{padded}
 use Rattle.calls.specs.Content.{Recovery}
 use Rattle.calls.specs.State.{State, scene, recount, rebuild, fits_over, count_spoilt, hold}
 use Rattle.calls.specs.Accept.{recovery_of, first_free, accept_media, take_parity, accept_parity}
-use Rattle.calls.specs.Rest.{settle-none}
+use Rattle.calls.proofs.Rest.{settle-none}
 use Rattle.calls.specs.Call.{begun, settled}
 use Rattle.table.specs.View.{Row, scatter}
 use Rattle.table.specs.Apart.{Fits, Alike, alike-scatter, alike-fits}

@@ -20,7 +20,7 @@ use Rattle.window.specs.declared.Window.{Window}
 use Rattle.window.specs.Store.{Store}
 use Rattle.calls.specs.Call.{standing_tests, media_offer_tests, parity_offer_tests, refused, settled, begun, offered_media, offered_parity}
 use Rattle.calls.specs.Accept.{accept_media, accept_parity}
-use Rattle.calls.specs.Standing.{standing-stops, standing-goes}
+use Rattle.calls.proofs.Standing.{standing-stops, standing-goes}
 
 -- the rest of a datagram behind its headers
 pub rest-is : (h : ℕ) (g : List ℕ) → take (length g - h) (drop h g) ≡ drop h g

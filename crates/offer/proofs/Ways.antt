@@ -22,8 +22,8 @@ use Rattle.calls.specs.State.{State, scene, held_record, hold}
 use Rattle.calls.specs.Settle.{settle}
 use Rattle.calls.specs.Accept.{accept_media, accept_parity, first_free, recovery_of}
 use Rattle.calls.specs.Call.{Outcome, standing_tests, media_place_tests, parity_place_tests, media_offer_tests, parity_offer_tests, refused, settled, begun, offered_media, offered_parity}
-use Rattle.calls.specs.Standing.{standing-good}
-use Rattle.calls.specs.Rest.{order-rest, held-rest}
+use Rattle.calls.proofs.Standing.{standing-good}
+use Rattle.calls.proofs.Rest.{order-rest, held-rest}
 use Rattle.table.specs.View.{Row, scatter}
 use Rattle.table.specs.Apart.{Fits, alike-scatter, alike-fits, length-scatter}
 use Rattle.table.specs.Hold.{gap_from, hold_in, first_free-rows, held_in_table}

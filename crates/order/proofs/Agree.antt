@@ -4,7 +4,8 @@ use mathlib.Core.Bool.{Bool, cond, ◌&&◌, ◌||◌}
 use Prim.Native.Nat.{ℕ, zero, suc, ◌+◌, ◌<◌, ◌≤◌}
 use native.Mathlib.Numerals.{add-one}
 use native.Mathlib.Omega.{arith}
-use Rattle.sequence.specs.Lists.{up_to, all, any, count, all_more, any-more, count-more, count-le, length-up_to}
+use Rattle.sequence.specs.Lists.{up_to, all, any, count}
+use Rattle.sequence.proofs.Lists.{all_more, any-more, count-more, count-le, length-up_to}
 
 module _ (f : ℕ → Bool) (n : ℕ) where
   all-suc : all f (up_to (suc n)) ≡ (all f (up_to n) && f n)

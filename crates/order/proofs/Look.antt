@@ -6,7 +6,8 @@ use Prim.Native.Nat.{ℕ, ◌<◌, ◌≤◌, ◌^◌}
 use native.Mathlib.Omega.{arith}
 use lib.Dec.{leb, ltb}
 use borrow.Author.Tests.{eq-eqb, ne_eqb, le-ltb, lt-ltb, not-true, not-false}
-use Rattle.sequence.specs.Lists.{up_to, any, and_split}
+use Rattle.sequence.specs.Lists.{up_to, any}
+use Rattle.sequence.proofs.Lists.{and_split}
 use Rattle.rtp.specs.Faults.{no_row}
 use Rattle.rtp.specs.Length.{good_length, whole-high}
 use Rattle.window.specs.declared.Record.{Record}

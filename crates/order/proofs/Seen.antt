@@ -10,7 +10,8 @@ use lib.Dec.{eqb}
 use lib.ListN.{length, get_or, set}
 use lib.Seq.{get_or-set_same, get_or-set_other}
 use borrow.Author.Tests.{eqb-true, eqb-false}
-use Rattle.sequence.specs.Lists.{up_to, any, false-any, and_split}
+use Rattle.sequence.specs.Lists.{up_to, any}
+use Rattle.sequence.proofs.Lists.{false-any, and_split}
 use Rattle.window.specs.declared.Record.{Record}
 use Rattle.window.specs.Order.{used, same_group}
 use Rattle.table.specs.View.{Row, it_at}

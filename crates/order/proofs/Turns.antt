@@ -8,7 +8,8 @@ use native.Mathlib.Nat.{eq-or-lt_of_le}
 use native.Mathlib.Omega.{arith}
 use lib.ListN.{length, get_or}
 use lib.Seq.{get_or-set_same, get_or-set_other}
-use Rattle.sequence.specs.Lists.{up_to, all, count, and_split, all_more, count-more}
+use Rattle.sequence.specs.Lists.{up_to, all, count}
+use Rattle.sequence.proofs.Lists.{and_split, all_more, count-more}
 use Rattle.window.specs.declared.Record.{Record}
 use Rattle.window.specs.declared.Window.{Window}
 use Rattle.window.specs.Order.{used}

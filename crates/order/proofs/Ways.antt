@@ -8,7 +8,8 @@ use lib.Dec.{eqb}
 use lib.ListN.{length, get_or}
 use borrow.Author.Tests.{eqb-true, eqb-false, eq-eqb, leb-true, ltb-false, not-false}
 use Rattle.answer.specs.First.{first}
-use Rattle.sequence.specs.Lists.{up_to, all, count, and_split, or_split, all_true}
+use Rattle.sequence.specs.Lists.{up_to, all, count}
+use Rattle.sequence.proofs.Lists.{and_split, or_split, all_true}
 use Rattle.rtp.specs.Length.{good_length, whole-high}
 use Rattle.window.specs.declared.Record.{Record}
 use Rattle.window.specs.declared.Sizes.{Sizes}
@@ -18,7 +19,7 @@ use Rattle.window.specs.Store.{Store, stored, sizes_of, short_sizes, short_store
 use Rattle.window.specs.Bounds.{set_up_good}
 use Rattle.window.specs.Group.{is_missing}
 use Rattle.window.specs.Order.{used, is_mark, is_present, marks_good, lengths_good, records_good, counts_good, disorder}
-use Rattle.calls.specs.Standing.{set_up-stops, store-stops, order-stops, none-stops}
+use Rattle.calls.proofs.Standing.{set_up-stops, store-stops, order-stops, none-stops}
 use Rattle.table.specs.View.{Row, it_at, scatter}
 use Rattle.table.specs.Apart.{Fits, Alike, alike_refl, alike-length, alike-it, length-scatter}
 use Rattle.table.specs.Hold.{used_rows, gap-few}

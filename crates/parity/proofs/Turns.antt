@@ -8,7 +8,7 @@ use native.Mathlib.Omega.{arith}
 use lib.ListN.{length, get_or, take, drop, take-append-drop, drop_of_length-le, length-take}
 use lib.Seq.{take-add, drop_at, drop-cons, take-suc, take-take, drop-append-le, length-take-le}
 use lib.Bits.{bit_xor, xor_zero_r}
-use Rattle.sequence.specs.Lists.{map-append}
+use Rattle.sequence.proofs.Lists.{map-append}
 use Rattle.xor.specs.Xor.{xor_all, xor_at, xor_parts}
 use Rattle.xor.specs.Laws.{xor_assoc}
 use Rattle.parity.specs.Rows.{places}

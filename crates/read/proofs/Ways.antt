@@ -22,7 +22,7 @@ use Rattle.window.specs.Group.{position, group, inside, is_missing, present}
 use Rattle.calls.specs.Content.{content_at, longest, number_over}
 use Rattle.calls.specs.Datagram.{media_packet, Outer}
 use Rattle.calls.specs.Call.{Written, standing_tests, over, read_tests, read_out, write_tests, parity_of, wrote_parity}
-use Rattle.calls.specs.Standing.{standing-known, standing-stops, standing-goes}
+use Rattle.calls.proofs.Standing.{standing-known, standing-stops, standing-goes}
 use Rattle.group.proofs.Rows.{row_ends}
 use Rattle.group.proofs.Defined.{all-present, summed}
 use Rattle.table.specs.View.{Row, scatter}

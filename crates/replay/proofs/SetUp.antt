@@ -4,7 +4,7 @@ use Rattle.answer.specs.First.{first}
 use Rattle.capture.specs.declared.Header.{Header}
 use Rattle.capture.specs.Content.{most_entries}
 use Rattle.capture.specs.Calls.{header_read}
-use Rattle.capture.specs.Claims.{few-entries}
+use Rattle.capture.proofs.Claims.{few-entries}
 use Rattle.window.specs.declared.Window.{Window}
 use Rattle.window.specs.Limits.{most_positions, most_records, set_up_tests}
 use Rattle.window.specs.Bounds.{set_up_good}

@@ -1,7 +1,7 @@
 -- Lengths of payloads (02, request 1; 004, 4.3 and 4.4).
 use Rattle.std.specs.Prelude.{◌≡◌, Bool, true, cond, ◌&&◌, ℕ, ◌%◌, ◌≤◌, eqb, leb}
 use Rattle.std.proofs.Common.{leb-true}
-use Rattle.sequence.specs.Lists.{and_split}
+use Rattle.sequence.proofs.Lists.{and_split}
 
 -- bytes of a transport stream packet, as the largest payload size P has it: 188, or else 204
 abbrev pub unit : (p : ℕ) → ℕ

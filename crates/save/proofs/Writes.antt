@@ -11,7 +11,8 @@ use Rattle.answer.specs.First.{first}
 use Rattle.xor.specs.Laid.{laid}
 use Rattle.capture.specs.Content.{most_entries, header, table_end, file_of}
 use Rattle.capture.specs.Calls.{Parts, content_of_parts, entries_fit, numbers_fit, lines, Filed, wrote}
-use Rattle.capture.specs.Parts.{fit, front_of, length_front, file_of-parts, length_of_parts, total-small}
+use Rattle.capture.specs.Parts.{front_of}
+use Rattle.capture.proofs.Parts.{fit, length_front, file_of-parts, length_of_parts, total-small}
 use Rattle.save.proofs.Lay.{sets_append}
 
 -- the need of a file is small

@@ -22,7 +22,3 @@ aligned_rows l d m = map (λ i. aligned_row l (m * d + i)) (up_to d)
 -- where its L aligned columns start
 abbrev pub aligned_columns : (l d m : ℕ) → List ℕ
 aligned_columns l d m = map (aligned_column l d m) (up_to l)
-
--- every staggered column starts in every matrix, and so once in it
-pub staggered-within : (l d m r : ℕ) → r < l → 0 < d → (m * (l * d) ≤ staggered_column l d m r) × (staggered_column l d m r < m * (l * d) + l * d)
-staggered-within l d m r h z = let e : l * (r % d) + l ≤ l * d = rw mul-suc at (mul-le-mul_left l (mod-lt r z)) in (omega arith, omega arith)

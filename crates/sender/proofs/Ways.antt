@@ -13,7 +13,8 @@ use lib.ListN.{length, get_or, take, drop, set, replicate, length-drop}
 use borrow.Author.Tests.{eq-eqb, ne_eqb, ltb-true, ltb-false, le-leb, lt-leb}
 use lib.Seq.{paste, sets, take_all, take-take, take-suc}
 use Rattle.answer.specs.First.{first, Numbered, first_stops, first_goes}
-use Rattle.sequence.specs.Lists.{all, all_append}
+use Rattle.sequence.specs.Lists.{all}
+use Rattle.sequence.proofs.Lists.{all_append}
 use Rattle.xor.specs.Xor.{zip_xor, xor_at, padded, take-zip}
 use Rattle.xor.specs.Padded.{length-padded, xor-padded}
 use Rattle.xor.specs.Laid.{laid}
@@ -27,8 +28,8 @@ use Rattle.calls.specs.Call.{zeroed, over}
 use Rattle.schedule.specs.declared.Leaving.{Leaving}
 use Rattle.schedule.specs.declared.Joining.{Joining}
 use Rattle.schedule.specs.Schedule.{Cycle, column_due, row_due, row_slot}
-use Rattle.schedule.specs.Exact.{column_due-due}
-use Rattle.schedule.specs.Limits.{slot_lt}
+use Rattle.schedule.proofs.Exact.{column_due-due}
+use Rattle.schedule.proofs.Limits.{slot_lt}
 use Rattle.schedule.specs.Numbers.{Small, leaving_by, leaving_at, joining_at}
 use Rattle.open.proofs.Ways.{front-zeros}
 use Rattle.sender.specs.declared.Sender.{Sender}

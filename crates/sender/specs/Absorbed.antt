@@ -8,7 +8,7 @@ use Rattle.xor.specs.Padded.{length-padded}
 use Rattle.rtp.specs.Rtp.{rtp_header_size}
 use Rattle.calls.specs.Content.{Recovery}
 use Rattle.schedule.specs.Schedule.{start, taking, slot, row_slot}
-use Rattle.schedule.specs.Limits.{slot_lt}
+use Rattle.schedule.proofs.Limits.{slot_lt}
 use Rattle.sender.specs.declared.Sender.{Sender}
 use Rattle.sender.specs.Sums.{Room, slots, sum_at, alone, joined, join}
 use Rattle.sender.specs.Call.{arrangement_of, absorbed}

@@ -3,7 +3,8 @@ use Rattle.std.specs.Prelude.{◌≡◌, Bool, true, false, not, ◌||◌, List,
 use Rattle.std.proofs.Common.{mul-le-mul_right, arith, ltb-true, ltb-false, leb-true, eqb-true}
 use Rattle.std.proofs.lemmas.Bool.{not-false}
 use Rattle.answer.specs.First.{first, first-none, first-front, first_back}
-use Rattle.sequence.specs.Lists.{all, and_split, or_split}
+use Rattle.sequence.specs.Lists.{all}
+use Rattle.sequence.proofs.Lists.{and_split, or_split}
 use Rattle.rtp.specs.Rtp.{rtp_header_size, sequence_number}
 use Rattle.rtp.specs.Fec.{parity_header_size}
 use Rattle.rtp.specs.Length.{good_length, whole-high}

@@ -6,9 +6,11 @@ use Rattle.std.proofs.Math.Option.{some}
 use Rattle.std.proofs.lemmas.Bool.{eqb-false}
 use Rattle.schedule.specs.declared.Arrangement.{Arrangement}
 use Rattle.schedule.specs.Schedule.{Cycle, start, due, row_due, taking, slot, row_slot, onward}
-use Rattle.schedule.specs.Exact.{Due, Member, remainder, member-before, taking-member, taking-is, row_due-last}
-use Rattle.schedule.specs.Place.{Place, onward-place, place-start, first-place, slot-place, line-place}
-use Rattle.schedule.specs.Limits.{slot_lt, taken-one}
+use Rattle.schedule.specs.Exact.{Due, Member}
+use Rattle.schedule.proofs.Exact.{remainder, member-before, taking-member, taking-is, row_due-last}
+use Rattle.schedule.specs.Place.{Place}
+use Rattle.schedule.proofs.Place.{onward-place, place-start, first-place, slot-place, line-place}
+use Rattle.schedule.proofs.Limits.{slot_lt, taken-one}
 use Rattle.sent.specs.Sums.{over, seen, Laws, seen_all, seen-miss, seen_none, seen_hit}
 
 module _ {X : Type 0} (◌⊕◌ : X → X → X) (o : X) (G : X → Type 0) (laws : Laws ◌⊕◌ o G) (x : ℕ → X) (good : (j : ℕ) → G (x j)) (a : Arrangement) (L D : ℕ) where

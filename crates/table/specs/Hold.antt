@@ -4,7 +4,8 @@ use Rattle.std.proofs.Common.{sym, ap, subst, ◌∙◌, ⊎_elim, eq-or-lt_of_l
 use Rattle.std.proofs.Math.ListN.{get_or-append}
 use Rattle.std.proofs.lemmas.List.{set_comm, set_at, set_split}
 use Rattle.std.proofs.Math.Seq.{append_snoc, drop-length, take-set-lt}
-use Rattle.sequence.specs.Lists.{up_to, keep, head_or, keep_append, count, count-more}
+use Rattle.sequence.specs.Lists.{up_to, keep, head_or, count}
+use Rattle.sequence.proofs.Lists.{keep_append, count-more}
 use Rattle.window.specs.declared.Record.{Record}
 use Rattle.window.specs.Record.{blank}
 use Rattle.window.specs.Order.{used}

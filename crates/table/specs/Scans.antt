@@ -1,7 +1,8 @@
 -- A test of every record below k, one of them, or how many: on a scattered table it is the same test of the rows' slots, where a free record does not count. Assumes nothing.
 use Rattle.std.specs.Prelude.{◌≡◌, refl, Bool, true, false, cond, ◌&&◌, ◌||◌, List, ◌∷◌, ℕ, zero, suc, ◌+◌, ◌<◌, ◌≤◌, length, get_or}
 use Rattle.std.proofs.Common.{sym, ap, subst, ◌∙◌, ⊎_elim, eq-or-lt_of_le, add-one, arith}
-use Rattle.sequence.specs.Lists.{up_to, all, any, count, all_more, any-more, count-more}
+use Rattle.sequence.specs.Lists.{up_to, all, any, count}
+use Rattle.sequence.proofs.Lists.{all_more, any-more, count-more}
 use Rattle.window.specs.declared.Record.{Record}
 use Rattle.window.specs.Record.{blank}
 use Rattle.table.specs.View.{Row, slot_at, scatter}

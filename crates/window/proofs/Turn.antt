@@ -8,7 +8,8 @@ use lib.Bits.{bit_and, bit_or, or_lt, or_add_and, and_le_l, and_le_r}
 use lib.ListN.{get_or}
 use borrow.Author.Tests.{leb-true, leb-false, le-leb, lt-leb}
 use mir.Val.{bool_byte}
-use Rattle.sequence.specs.Lists.{up_to, all, any, count, all_more, any-more, count-more, count-le, length-up_to}
+use Rattle.sequence.specs.Lists.{up_to, all, any, count}
+use Rattle.sequence.proofs.Lists.{all_more, any-more, count-more, count-le, length-up_to}
 use Rattle.window.specs.Order.{is_mark}
 
 -- the mark of a position is 0 or 1

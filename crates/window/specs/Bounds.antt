@@ -3,7 +3,7 @@ use Rattle.std.specs.Prelude.{◌≡◌, refl, Bool, true, false, ◌&&◌, ◌|
 use Rattle.std.proofs.Common.{ap, ◌∙◌, arith, ltb-false, leb-true, le-leb, eqb-true, ne_eqb}
 use Rattle.std.proofs.lemmas.Bool.{not-false}
 use Rattle.answer.specs.First.{first, first-none}
-use Rattle.sequence.specs.Lists.{and_split, or_split}
+use Rattle.sequence.proofs.Lists.{and_split, or_split}
 use Rattle.rtp.specs.Length.{good_length}
 use Rattle.window.specs.declared.Window.{Window}
 use Rattle.window.specs.Limits.{most_side, most_matrix, most_positions, most_records, bad_profile, bad_payload, one_to_seven, set_up_tests}

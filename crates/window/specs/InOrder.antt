@@ -3,7 +3,8 @@ use Rattle.std.specs.Prelude.{◌≡◌, refl, Bool, true, false, ◌&&◌, ◌|
 use Rattle.std.proofs.Math.Path.{ap}
 use Rattle.std.proofs.Math.Bool.{not}
 use borrow.Author.Tests.{leb-true, le-leb, eqb-true, eq-eqb, not-true, not-false}
-use Rattle.sequence.specs.Lists.{up_to, any, count, and_split, all_true, true-all, any_false, false-any}
+use Rattle.sequence.specs.Lists.{up_to, any, count}
+use Rattle.sequence.proofs.Lists.{and_split, all_true, true-all, any_false, false-any}
 use Rattle.rtp.specs.Faults.{no_row}
 use Rattle.rtp.specs.Length.{good_length}
 use Rattle.window.specs.declared.Window.{Window}

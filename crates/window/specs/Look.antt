@@ -1,7 +1,8 @@
 -- Whether none, one or more of a group are missing, and how many of its members are visited to tell (02, request 3).
 use Rattle.std.specs.Prelude.{◌≡◌, refl, cond, List, [], ◌∷◌, ℕ, suc, ◌≤◌, leb, ltb, length}
 use Rattle.std.proofs.Common.{sym, ◌∙◌, arith, le-leb, lt-ltb}
-use Rattle.sequence.specs.Lists.{any, any-count}
+use Rattle.sequence.specs.Lists.{any}
+use Rattle.sequence.proofs.Lists.{any-count}
 use Rattle.window.specs.declared.Look.{Look}
 use Rattle.window.specs.declared.Look.TheVariants.{None, One, More}
 use Rattle.window.specs.Limits.{least_missing}

@@ -3,8 +3,10 @@
 use Rattle.std.specs.Prelude.{◌≡◌, Bool, true, false, cond, ℕ, ◌+◌, ◌*◌, ◌-◌, ◌^◌, ◌<◌, ◌≤◌, eqb, ltb}
 use Rattle.std.proofs.Common.{sym, ◌∙◌, mul-le-mul, mul-le-mul_right, arith, ltb-true}
 use Rattle.sequence.specs.Lists.{count}
-use Rattle.sequence.specs.Wrap.{member, ahead-members, ahead_plain, below_last}
-use Rattle.sequence.specs.Line.{line, line-once}
+use Rattle.sequence.specs.Wrap.{member}
+use Rattle.sequence.proofs.Wrap.{ahead-members, ahead_plain, below_last}
+use Rattle.sequence.specs.Line.{line}
+use Rattle.sequence.proofs.Line.{line-once}
 use Rattle.rtp.specs.Fec.{offset_of, na_of}
 use Rattle.window.specs.declared.Window.{Window}
 use Rattle.window.specs.Limits.{width, most_side}

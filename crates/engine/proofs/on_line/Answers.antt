@@ -2,8 +2,8 @@
 use Prim.Native.Nat.{◌+◌, ◌*◌}
 use lib.Dec.{leb, ltb}
 use borrow.Author.Tests.{ltb-false, leb-false}
-use Rattle.sequence.specs.Lists.{or_split}
-use Rattle.sequence.specs.Line.{beside, on_line}
+use Rattle.sequence.proofs.Lists.{or_split}
+use Rattle.sequence.proofs.Line.{beside, on_line}
 use Rattle.window.proofs.Product.{product_fits, product_le}
 use native.Mathlib.Omega.{arith}
 use Rattle.engine.proofs.on_line.Goals as goal

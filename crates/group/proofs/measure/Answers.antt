@@ -5,7 +5,7 @@ use Prim.Native.Nat.{ℕ, max}
 use lib.Dec.{eqb}
 use lib.ListN.{get_or}
 use borrow.Author.Tests.{eqb-true}
-use Rattle.sequence.specs.Lists.{and_split}
+use Rattle.sequence.proofs.Lists.{and_split}
 use Rattle.parity.proofs.Turns.{one-timestamp, each_more}
 use Rattle.group.proofs.Longest.{longest-more}
 use native.Mathlib.Omega.{arith}

@@ -6,7 +6,7 @@ use lib.Dec.{eqb}
 use lib.ListN.{get_or, take}
 use lib.Seq.{paste, take-take}
 use borrow.Author.Tests.{eqb-true}
-use Rattle.sequence.specs.Lists.{and_split}
+use Rattle.sequence.proofs.Lists.{and_split}
 use Rattle.xor.specs.Xor.{xor_payloads}
 use Rattle.parity.specs.Rows.{row_of}
 use Rattle.parity.specs.Sum.{pasted}

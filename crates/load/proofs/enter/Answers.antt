@@ -1,5 +1,5 @@
 -- `load::enter` meets its contract.
-use Rattle.capture.specs.Stage.{enter-line}
+use Rattle.capture.proofs.StageLaws.{enter-line}
 use Rattle.load.proofs.enter.Goals as goal
 
 pub returns-then-left-eq0 : goal.returns-then-left-eq0

@@ -2,7 +2,7 @@
 use mathlib.Core.Path.{ap, ◌∙◌}
 use native.Mathlib.Omega.{arith}
 use Rattle.capture.specs.Content.{table_end}
-use Rattle.capture.specs.Claims.{few-entries}
+use Rattle.capture.proofs.Claims.{few-entries}
 use Rattle.load.proofs.Front.{entry_none, entry_past, entry_good, size-bytes, start-bytes}
 use Rattle.load.proofs.entry_of.Goals as goal
 

@@ -1,6 +1,7 @@
 -- `load::feed` meets its contract.
 use mathlib.Core.Path.{sym, ap, subst, ◌∙◌}
-use Rattle.capture.specs.Stage.{feed, skip_fed}
+use Rattle.capture.specs.Stage.{feed}
+use Rattle.capture.proofs.StageLaws.{skip_fed}
 use Rattle.capture.specs.Small.{Small}
 use borrow.Author.Rules.{rules}
 use Rattle.load.proofs.feed.Goals as goal

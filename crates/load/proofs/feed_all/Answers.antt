@@ -2,8 +2,9 @@
 use mathlib.Core.Path.{refl, sym, subst, ◌∙◌}
 use native.Mathlib.Omega.{arith}
 use lib.ListN.{get_or}
-use Rattle.capture.specs.Stage.{skip_rest, run_at, run_end}
-use Rattle.capture.specs.Small.{Small, feed-small, run_small}
+use Rattle.capture.proofs.StageLaws.{skip_rest, run_at, run_end}
+use Rattle.capture.specs.Small.{Small}
+use Rattle.capture.proofs.Small.{feed-small, run_small}
 use Rattle.load.proofs.feed_all.Goals as goal
 
 pub loop-i-init : goal.loop-i-init

@@ -1,5 +1,5 @@
 -- `load::feed_head` meets its contract.
-use Rattle.capture.specs.Stage.{head-enter, head-head, head-refused}
+use Rattle.capture.proofs.StageLaws.{head-enter, head-head, head-refused}
 use Rattle.load.proofs.feed_head.Goals as goal
 
 pub returns-then-at-eq12 : goal.returns-then-at-eq12

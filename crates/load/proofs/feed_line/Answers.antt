@@ -1,6 +1,6 @@
 -- `load::feed_line` meets its contract.
-use Rattle.capture.specs.Small.{size_small-after}
-use Rattle.capture.specs.Stage.{line-enter, line-line, line_refused}
+use Rattle.capture.proofs.Small.{size_small-after}
+use Rattle.capture.proofs.StageLaws.{line-enter, line-line, line_refused}
 use mathlib.Core.Path.{sym, ◌∙◌}
 use native.Mathlib.Omega.{arith}
 use Rattle.load.proofs.feed_line.Goals as goal

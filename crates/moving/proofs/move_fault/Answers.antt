@@ -3,7 +3,7 @@ use mathlib.Core.Path.{sym, ◌∙◌}
 use Rattle.window.specs.Bounds.{set_up_good}
 use borrow.Author.Tests.{ltb-false}
 use lib.Dec.{ltb}
-use Rattle.sequence.specs.Lists.{or_split}
+use Rattle.sequence.proofs.Lists.{or_split}
 use Rattle.table.specs.View.{hand}
 use Rattle.moving.proofs.Tests.{set_up-stops, move-stops, standing-says}
 use Rattle.moving.proofs.move_fault.Goals as goal

@@ -9,7 +9,7 @@ use lib.ListN.{length, take, drop, length-drop}
 use borrow.Author.Tests.{eq-eqb, ne_eqb}
 use Rattle.xor.specs.Xor.{padded}
 use Rattle.xor.specs.Same.{same}
-use Rattle.sequence.specs.Lists.{and_split}
+use Rattle.sequence.proofs.Lists.{and_split}
 use Rattle.rtp.specs.Fec.{parity_header_size, snbase}
 use Rattle.window.specs.declared.Record.{Record}
 use Rattle.window.specs.Store.{payload_in}

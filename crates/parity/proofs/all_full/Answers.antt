@@ -3,7 +3,7 @@ use mathlib.Core.Path.{◌≡◌, sym, ◌∙◌}
 use lib.Dec.{eqb}
 use lib.ListN.{get_or}
 use borrow.Author.Tests.{eqb-true}
-use Rattle.sequence.specs.Lists.{and_split}
+use Rattle.sequence.proofs.Lists.{and_split}
 use Rattle.parity.proofs.Turns.{each_more}
 use native.Mathlib.Omega.{arith}
 use Rattle.parity.proofs.all_full.Goals as goal

@@ -6,7 +6,7 @@ use borrow.Author.Tests.{not-true, not-false}
 use Prim.Native.Nat.{ℕ}
 use lib.ListN.{length}
 use Rattle.capture.specs.Calls.{Parts, numbers_fit}
-use Rattle.capture.specs.Parts.{fit, fields}
+use Rattle.capture.proofs.Parts.{fit, fields}
 use Rattle.save.proofs.Writes.{small_need, not-entries, not_numbers, too_short, was-written}
 use Rattle.save.proofs.write.Goals as goal
 

@@ -2,7 +2,7 @@
 use mathlib.Core.Path.{refl}
 use Prim.Native.Nat.{◌/◌, ◌%◌}
 use native.Mathlib.Nat.{mod-lt}
-use Rattle.schedule.specs.Numbers.{taking-small, joining_is}
+use Rattle.schedule.proofs.Numbers.{taking-small, joining_is}
 use Rattle.schedule.proofs.column_in.Goals as goal
 
 pub start_of-start-requires : goal.start_of-start-requires

@@ -1,6 +1,6 @@
 -- `schedule::column_out` meets its contract.
 use Prim.Native.Nat.{◌*◌}
-use Rattle.schedule.specs.Numbers.{matrix-some, turn_small, cycle-small, leaving-sends, leaving-none}
+use Rattle.schedule.proofs.Numbers.{matrix-some, turn_small, cycle-small, leaving-sends, leaving-none}
 use Rattle.schedule.proofs.column_out.Goals as goal
 
 pub nonzero_div-at : goal.nonzero_div-at

@@ -2,7 +2,7 @@
 use native.Mathlib.Omega.{arith}
 use Prim.Native.Nat.{◌+◌}
 use Rattle.schedule.specs.Schedule.{due}
-use Rattle.schedule.specs.Numbers.{cycles_small, column-small, lines-small, start_small}
+use Rattle.schedule.proofs.Numbers.{cycles_small, column-small, lines-small, start_small}
 use Rattle.schedule.proofs.due_of.Goals as goal
 
 pub overflow_mul-result-in-Aligned : goal.overflow_mul-result-in-Aligned

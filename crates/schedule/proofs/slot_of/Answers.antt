@@ -2,7 +2,7 @@
 use native.Mathlib.Omega.{arith}
 use mathlib.Core.Path.{refl}
 use Rattle.schedule.specs.Schedule.{slot}
-use Rattle.schedule.specs.Numbers.{slot-fits}
+use Rattle.schedule.proofs.Numbers.{slot-fits}
 use Rattle.schedule.proofs.slot_of.Goals as goal
 
 pub overflow_mul-result : goal.overflow_mul-result

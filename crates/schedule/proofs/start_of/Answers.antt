@@ -1,6 +1,6 @@
 -- `schedule::start_of` meets its contract.
 use native.Mathlib.Omega.{arith}
-use Rattle.schedule.specs.Numbers.{line_small, cycles_small}
+use Rattle.schedule.proofs.Numbers.{line_small, cycles_small}
 use Rattle.schedule.specs.Schedule.{start}
 use Rattle.schedule.proofs.start_of.Goals as goal
 

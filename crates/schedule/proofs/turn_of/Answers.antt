@@ -1,6 +1,6 @@
 -- `schedule::turn_of` meets its contract.
 use Rattle.schedule.specs.Schedule.{turn}
-use Rattle.schedule.specs.Numbers.{matrix-some}
+use Rattle.schedule.proofs.Numbers.{matrix-some}
 use Rattle.schedule.proofs.turn_of.Goals as goal
 
 pub nonzero_rem-result : goal.nonzero_rem-result

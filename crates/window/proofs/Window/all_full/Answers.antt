@@ -6,7 +6,8 @@ use native.Mathlib.Omega.{arith}
 use lib.Dec.{eqb}
 use lib.ListN.{get_or}
 use borrow.Author.Tests.{eqb-true}
-use Rattle.sequence.specs.Lists.{up_to, all, all_true, true-all}
+use Rattle.sequence.specs.Lists.{up_to, all}
+use Rattle.sequence.proofs.Lists.{all_true, true-all}
 use Rattle.rtp.specs.Length.{good_length}
 use Rattle.window.specs.Order.{is_present}
 use Rattle.window.proofs.Turn.{turn-all}

@@ -1,0 +1,10 @@
+pub mod Accepts
+pub mod Bytes
+pub mod Claims
+pub mod Example
+pub mod Parts
+pub mod ReadsLaws
+pub mod Refuses
+pub mod Small
+pub mod StageLaws
+pub mod Theorem

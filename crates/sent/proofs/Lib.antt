@@ -1,0 +1,4 @@
+pub mod Lives
+pub mod Room
+pub mod Theorem
+pub mod Written
