@@ -8,7 +8,7 @@
  * The library keeps nothing: the card lends the store to every call, and gets
  * the next window value back beside the answer. It has no heap, clock, socket or
  * variable of its own, asks for memcpy, memmove and memset and nothing else, and runs on
- * x86-64.
+ * x86-64-v2, that is x86-64 with SSE up to 4.2.
  *
  *     static uint8_t media[200 * 1316], marks[200], parity[40 * 1316];
  *     static uint32_t timestamps[200];
@@ -116,11 +116,12 @@
  * every other call refuses with 1.
  *
  * Stack and time
- *   A call needs less than 8 KiB of stack: 8,144 bytes measured on a painted stack, with
+ *   A call needs less than 8 KiB of stack: 8,160 bytes measured on a painted stack, with
  *   its arguments; tests/guard.c fails above 8 KiB.
  *   Time goes with n, K and P, with the records in use and with the packets rebuilt.
  *   At P 1,316, n 400, K 128 a media packet takes some 0.2 us and the worst call found,
- *   one late packet that rebuilds 100, some 45 us: docs/PERFORMANCE.md.
+ *   one late packet that rebuilds 100, some 45 us: docs/PERFORMANCE.md, which says with
+ *   which kit the times were taken.
  *   A move goes with n x P, since all that stays moves down: at P 1,316, n 200 some 7 us by
  *   100 and some 4 us by 1. All calls together come to some 0.25 us a packet where a window
  *   moves by 100, and to some 4 us where it moves by 1.

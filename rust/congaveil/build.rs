@@ -23,10 +23,7 @@ fn main() {
     let library = dir.join("libcongaveil.a");
     println!("cargo:rerun-if-changed={}", library.display());
     if !library.is_file() {
-        stop(format!(
-            "{} is not there: run `rt staticlib congaveil` in the repository, or name its folder in CONGAVEIL_LIB_DIR",
-            library.display()
-        ));
+        stop(format!("{} is not there: run `tools/library` in the repository, or name its folder in CONGAVEIL_LIB_DIR", library.display()));
     }
     println!("cargo:rustc-link-search=native={}", dir.display());
     println!("cargo:rustc-link-lib=static=congaveil");
