@@ -98,7 +98,7 @@ entry_read front i =
 
 -- ---- writing a file
 
--- what a card lends to be written: the numbers of a set_up, the ports and lengths of the entries, and their bodies one after the other
+-- what a card lends to be written: the numbers of a set-up, the ports and lengths of the entries, and their bodies one after the other
 pub record Parts : Type 0 where
   pub base : ℕ
   pub l : ℕ

@@ -24,7 +24,7 @@ pub record Entry : Type 0 where
   pub port : ℕ
   pub body : List ℕ
 
--- what a file holds: the numbers of a set_up, and the entries in order of arrival
+-- what a file holds: the numbers of a set-up, and the entries in order of arrival
 pub record Content : Type 0 where
   pub l : ℕ
   pub d : ℕ

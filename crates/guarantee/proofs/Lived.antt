@@ -88,7 +88,7 @@ module _ {w : Window} {t : Stretch} {s : Store} (S : Start w t s) where
   offer_again rowPort g fair = parity_again (record { port = rowPort; datagram = g }) row (omega arith) refl fair
 
 -- ---- a window over its feed
--- one window value has the set_up numbers of another, and that those of a third
+-- one window value has the set-up numbers of another, and that those of a third
 set_up_then : (v x w : Window) → SameSetUp v x → SameSetUp x w → SameSetUp v w
 set_up_then v x w e f = e ∙ ap (λ z. recount z v.present v.in_use) f
 

@@ -91,7 +91,7 @@ module _ {w : Window} {t : Stretch} {s : Store} (S : Start w t s) (by : ℕ) (hb
   shifted-holds : Holds (advanced by 0 w) (onward by t) (shifted w by released.store)
   shifted-holds = onward-holds (start-limits S) released.good by hb (released-clear released) (released-holds released S.holds)
 
-  -- the base moved on, and the other set_up numbers stay
+  -- the base moved on, and the other set-up numbers stay
   pub moved-set_up : (out sizes : List ℕ) → SameSetUp (moved_on w by s out sizes).window (advanced by 0 w)
   unfolding release_behind
   moved-set_up out sizes = subst (λ x. SameSetUp (advanced by (leaving_count s by) x.window) (advanced by 0 w)) (sym released.is) refl

@@ -1,4 +1,4 @@
--- What is said of a window value speaks of its set_up numbers alone: it holds with any other counts. As `recount (recount w a u)` with
+-- What is said of a window value speaks of its set-up numbers alone: it holds with any other counts. As `recount (recount w a u)` with
 use Rattle.std.specs.Prelude.{List, ℕ}
 use Rattle.window.specs.declared.Window.{Window}
 use Rattle.window.specs.Store.{Store}

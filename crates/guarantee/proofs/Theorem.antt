@@ -162,7 +162,7 @@ covered {w} L F E G H ok ko sub = record {
   of_check = λ k c m. in_check L E H ko k.0 k.1 (sub _ (check_in L F G ok k c m).1);
 }
 
--- from any starts of the same set_up numbers
+-- from any starts of the same set-up numbers
 pub demand3-same-from : ClaimSameFrom
 demand3-same-from x y t u offers others G H e names i h = go ((conclusions R A (at_rest R A)).mark i h)
     ((conclusions Q B (at_rest Q B)).mark i h)

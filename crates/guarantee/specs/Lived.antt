@@ -35,6 +35,6 @@ use Rattle.guarantee.specs.Moving.{onward, slot_of}
 use Rattle.guarantee.specs.Life.{Event, offer, move, Life, born, moving, after_one, after, Feed, Feeds, has_place, under, Fair, AllFair, Lived, ClaimOutside, ClaimLife, ClaimBelieved, ClaimOneEach, next_gets, ClaimThen}
 
 -- ---- an offer, whether there is room for it or not
--- what a call leaves is a start with the same set_up numbers
+-- what a call leaves is a start with the same set-up numbers
 abbrev pub Again : Window → Stretch → Outcome → Type 0
 Again w t x = SameSetUp x.window w × Start x.window t x.store

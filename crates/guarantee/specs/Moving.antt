@@ -30,7 +30,7 @@ pub record GivenMove (w : Window) (t : Stretch) (s : Store) (by : ℕ) (x : Move
   pub done : x.answer ≡ Done count 0
   pub fills : Fills x.window (onward by t)
 
--- the base moved on and the other set_up numbers stay; all that the store holds is unaltered for the stretch moved on, and it is in order
+-- the base moved on and the other set-up numbers stay; all that the store holds is unaltered for the stretch moved on, and it is in order
 abbrev pub ClaimMove : Type 0
 ClaimMove =
     (w : Window) (t : Stretch) (s : Store) (by : ℕ) (x : Moved) → GivenMove w t s by x → SameSetUp x.window (advanced by 0 w) × Start x.window (onward by t) x.store

@@ -24,7 +24,7 @@ use Rattle.peel.proofs.Rest.{steps_then}
 use Rattle.guarantee.specs.View.{code, check_at, Held, view, Good, Missing}
 use Rattle.guarantee.specs.Moves.{Solved, rebuilt_in, freed}
 
--- a state whose window value has a given window's set_up numbers
+-- a state whose window value has a given window's set-up numbers
 abbrev pub at : Window → (a u : ℕ) → Store → (rebuilt spoilt : ℕ) → State
 at w a u s rebuilt spoilt = scene (recount w a u) s rebuilt spoilt
 

@@ -30,7 +30,7 @@ use Rattle.guarantee.specs.Start.{Holds, media_held, parity_held, every, counts,
 use Rattle.guarantee.specs.Sent.{seen_on, seen}
 
 -- ---- from any start
--- what is given, by the set_up numbers of a window value w and counts a and u
+-- what is given, by the set-up numbers of a window value w and counts a and u
 pub record Ready (w : Window) (a u : ℕ) (s : Store) (t : Stretch) (offers : List Offer) : Type 0 where
   pub within : Opened w
   pub fills : Fills w t

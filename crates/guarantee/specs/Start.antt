@@ -74,11 +74,11 @@ pub record GivenFrom (x : Outcome) (t : Stretch) (offers : List Offer) : Type 0 
   pub unaltered : (o : Offer) → Memᴰ o (counted x.window offers) → Unaltered x.window t o
   pub few_groups : length (distinct_groups (received_from x.window x.store offers)) ≤ parity_room x.window
 
--- two window values of the same set_up numbers
+-- two window values of the same set-up numbers
 abbrev pub SameSetUp : Window → Window → Type 0
 SameSetUp v w = v ≡ recount w v.present v.in_use
 
--- what the list leaves: the set_up numbers as they were, demand 3 with what the store held counted as received, and a start for the next list
+-- what the list leaves: the set-up numbers as they were, demand 3 with what the store held counted as received, and a start for the next list
 pub record Reached (x : Outcome) (t : Stretch) (offers : List Offer) (y : Outcome) : Type 0 where
   pub set_up : SameSetUp y.window x.window
   pub demand : Demand3 x.window t (received_from x.window x.store offers) (answers x offers) y.store
@@ -88,7 +88,7 @@ pub record Reached (x : Outcome) (t : Stretch) (offers : List Offer) (y : Outcom
 abbrev pub ClaimFrom : Type 0
 ClaimFrom = (x : Outcome) (t : Stretch) (offers : List Offer) → GivenFrom x t offers → Reached x t offers (run x offers)
 
--- two lists from starts of the same set_up numbers, with the same packets received: the same packets are present
+-- two lists from starts of the same set-up numbers, with the same packets received: the same packets are present
 abbrev pub ClaimSameFrom : Type 0
 ClaimSameFrom =
     (x y : Outcome) (t u : Stretch) (offers others : List Offer)

@@ -1,4 +1,4 @@
--- A header whose set_up no refusal applies to has small numbers. Assumes nothing.
+-- A header whose set-up no refusal applies to has small numbers. Assumes nothing.
 use Rattle.std.proofs.Common.{◌≡◌, ℕ, ◌+◌, ◌*◌, ◌≤◌, List, sym, ap, subst, ◌∙◌, mul-le-mul, arith}
 use Rattle.answer.specs.First.{first}
 use Rattle.capture.specs.declared.Header.{Header}

@@ -1,7 +1,7 @@
 #![tactic(auto)]
 
 // Replays a capture file (02, request 2): what each offer was answered and how many packets it rebuilt, and how many packets are
-// there in the end. A file that is none prints 21 alone, a set_up that no window has its number, 1 to 3, and one that the buffers are
+// there in the end. A file that is none prints 21 alone, a set-up that no window has its number, 1 to 3, and one that the buffers are
 // too small for "too big". Where what is printed cannot be written, the error ends the program.
 mod input;
 mod play;

@@ -17,7 +17,7 @@ ghost use Rattle.sender.specs.Sums.{lent, slots, alone, join};
 ghost use Rattle.sender.specs.Call.{astray, cleared, no_sender, fresh, opened, packet, column_out, row_out, absorbed, next_sender, offered, set_up_tests};
 ghost use Rattle.sender.specs.Ready.{short_by, open_by, standing_by, out_of_turn, offer_by, SetUp, Roomy, Ready, Slot, Payload};
 
-// A sender's value: its set_up numbers, and where it stands.
+// A sender's value: its set-up numbers, and where it stands.
 #[repr(C)]
 #[derive(Clone, Copy)]
 pub struct Sender {

@@ -48,7 +48,7 @@ abbrev pub after : Life → List Offer → Life
 after x [] = x
 after x (o ∷ os) = after (next x o) os
 
--- the set_up numbers that a card opens with
+-- the set-up numbers that a card opens with
 pub record SetUp : Type 0 where
   pub first : ℕ
   pub arrangement : ℕ

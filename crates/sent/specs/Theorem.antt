@@ -40,11 +40,11 @@ use Rattle.sent.specs.Life.{Offer, Life, answer, next, after, SetUp, opening, li
 use Rattle.sent.specs.Lives.{packets, packets-sized, Lives}
 
 -- ---- a packet that goes out is the base's
--- the set_up numbers of a sender
+-- the set-up numbers of a sender
 abbrev pub set_up_of : Sender → SetUp
 set_up_of s = record { first = s.first; arrangement = s.arrangement; l = s.l; d = s.d; p = s.p }
 
--- a sender of these set_up numbers that has taken some datagrams
+-- a sender of these set-up numbers that has taken some datagrams
 pub record Goes (u : SetUp) (x : Life) : Type 0 where
   pub same : set_up_of x.sender ≡ u
   pub lives : Lives x.sender x.room x.taken

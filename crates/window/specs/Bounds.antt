@@ -1,4 +1,4 @@
--- What refusals 1 to 4 leave known: bounds on the set_up numbers, and how much of the store there is.
+-- What refusals 1 to 4 leave known: bounds on the set-up numbers, and how much of the store there is.
 use Rattle.std.specs.Prelude.{◌≡◌, refl, Bool, true, false, ◌&&◌, ◌||◌, ℕ, zero, suc, ◌*◌, ◌/◌, ◌%◌, ◌≤◌, eqb, leb, ltb, length}
 use Rattle.std.proofs.Common.{ap, ◌∙◌, arith, ltb-false, leb-true, le-leb, eqb-true, ne_eqb}
 use Rattle.std.proofs.lemmas.Bool.{not-false}
@@ -19,7 +19,7 @@ pub record Profile (l d : ℕ) : Type 0 where
   pub d-high : d ≤ most_side
   pub area : l * d ≤ most_matrix
 
--- a window value whose set_up numbers are within their limits
+-- a window value whose set-up numbers are within their limits
 pub record SetUp (w : Window) : Type 0 where
   pub profile : Profile w.l w.d
   pub p-low : 188 ≤ w.p

@@ -1,4 +1,4 @@
--- Limits of a window's set_up numbers: refusals 1 to 3 (01, "Setting up a window").
+-- Limits of a window's set-up numbers: refusals 1 to 3 (01, "Setting up a window").
 use Rattle.std.specs.Prelude.{Bool, not, ◌&&◌, ◌||◌, List, [], ◌∷◌, ℕ, ◌*◌, ◌/◌, ◌%◌, eqb, leb, ltb}
 use Rattle.window.specs.declared.Window.{Window}
 

@@ -1,6 +1,6 @@
 #![tactic(auto)]
 
-// The window value: its set_up numbers, its limits, what the lent store needs, and whether that store is in order.
+// The window value: its set-up numbers, its limits, what the lent store needs, and whether that store is in order.
 ghost use Rattle.std.specs.Prelude.{◌≡◌, true, cond, not, ◌&&◌, ◌||◌, ◌+◌, ◌*◌, ◌<◌, ◌≤◌, eqb, leb, ltb, length, get_or};
 ghost use Rattle.answer.specs.First.{first};
 ghost use Rattle.sequence.specs.Lists.{up_to, all, count};
@@ -123,7 +123,7 @@ pub fn lacks(a: Look) -> bool
     0 < at_least(a)
 }
 
-// ---- refusals 1 to 3: the set_up numbers
+// ---- refusals 1 to 3: the set-up numbers
 
 // 1: L, D or the matrix out of its limits.
 pub fn bad_profile(l: usize, d: usize) -> bool

@@ -1,4 +1,4 @@
--- A header whose set_up no refusal applies to has small numbers.
+-- A header whose set-up no refusal applies to has small numbers.
 use Rattle.std.proofs.Common.{arith}
 use Rattle.replay.proofs.SetUp.{Small, small, small_product}
 use Rattle.replay.proofs.judge.Goals as goal
