@@ -1,13 +1,7 @@
 -- The content of a packet: what exclusive-or acts on (01, "Bytes on the wire"; 02, request 1).
-use Rattle.std.specs.Prelude.{◌≡◌, refl, Bool, ◌&&◌, List, [], ◌∷◌, map, ℕ, max, eqb, get_or, drop}
-use Rattle.std.specs.Int.Bits.{bit_xor}
-use Rattle.xor.specs.Xor.{zip_xor, xor_all, xor_payloads}
-use Rattle.xor.specs.Same.{same}
-use Rattle.sequence.specs.Lists.{all}
-use Rattle.rtp.specs.Length.{whole_units}
+use Rattle.std.specs.Prelude.{◌≡◌, refl, List, ℕ}
 use Rattle.window.specs.declared.Window.{Window}
-use Rattle.window.specs.Store.{Store, payload_in, payload_at, timestamp_at, length_at, record_at, parity_at}
-use Rattle.window.specs.Group.{present}
+use Rattle.window.specs.Store.{Store}
 use Rattle.calls.specs.Content.{Content, content_over, number_over, payload_over}
 
 -- these are its cells

@@ -1,5 +1,5 @@
 -- What is known where no refusal of a call applied, by name: one record a call. A refusal more is a field more, and moves no other.
-use Rattle.std.specs.Prelude.{◌≡◌, refl, Bool, true, false, not, ◌&&◌, ◌||◌, List, [], ◌∷◌, ◌++◌, map, ℕ, ◌+◌, ◌-◌, ◌<◌, ◌≤◌, length, drop, eqb, leb, ltb}
+use Rattle.std.specs.Prelude.{◌≡◌, refl, Bool, true, false, not, ◌&&◌, ◌||◌, List, [], ◌∷◌, ◌++◌, map, ℕ, ◌+◌, ◌-◌, ◌<◌, length, drop, eqb, leb, ltb}
 use Rattle.std.proofs.Common.{sym, ap, ◌∙◌, length-drop, ltb-true, lt-ltb, le-leb}
 use Rattle.std.proofs.Math.Bool.{and-false}
 use Rattle.std.proofs.lemmas.Bool.{false≢true, not-false}
@@ -14,10 +14,7 @@ use Rattle.window.specs.declared.Window.{Window}
 use Rattle.window.specs.Limits.{least_missing, rows, parity_room}
 use Rattle.window.specs.Store.{Store}
 use Rattle.window.specs.Group.{position, group, inside, is_missing, missing}
-use Rattle.calls.specs.Content.{same_recovery, recovery_over}
-use Rattle.calls.specs.Accept.{recovery_of}
 use Rattle.calls.specs.Call.{standing_tests, media_place_tests, media_offer_tests, holds, holds_same, contradicts, parity_place_tests, parity_offer_tests, read_place_tests, read_tests, write_place_tests, write_tests}
-use Rattle.calls.specs.Standing.{Standing}
 use Rattle.calls.proofs.Standing.{standing-good}
 use Rattle.calls.specs.Passed.{MediaPassed, ParityPassed, ReadPassed, WritePassed}
 

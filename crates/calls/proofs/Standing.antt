@@ -1,5 +1,5 @@
 -- What every call but opening meets first, refusals 1 to 5: the ways through them, and what is known behind them. Assumes nothing.
-use Rattle.std.specs.Prelude.{◌≡◌, Bool, true, false, not, ◌||◌, List, [], ◌∷◌, ◌++◌, ℕ, ◌≤◌, ltb}
+use Rattle.std.specs.Prelude.{◌≡◌, Bool, true, false, not, ◌||◌, List, [], ◌∷◌, ◌++◌, ℕ, ltb}
 use Rattle.std.proofs.Common.{sym, ◌∙◌, ltb-false}
 use Rattle.std.proofs.lemmas.Bool.{not-true, not-false}
 use Rattle.answer.specs.First.{first, first_hit, first_past, first-end, first-none, first_stops, first_goes}
@@ -7,9 +7,9 @@ use Rattle.sequence.proofs.Lists.{or_split}
 use Rattle.window.specs.declared.Window.{Window}
 use Rattle.window.specs.Limits.{set_up_tests}
 use Rattle.window.specs.Store.{Store, short_store}
-use Rattle.window.specs.Bounds.{SetUp, Sized, set_up_good, sizes-good}
+use Rattle.window.specs.Bounds.{set_up_good, sizes-good}
 use Rattle.window.specs.Order.{disorder}
-use Rattle.window.specs.InOrder.{InOrder, in_order}
+use Rattle.window.specs.InOrder.{in_order}
 use Rattle.calls.specs.Call.{standing_tests}
 use Rattle.calls.specs.Standing.{standing_by, Standing}
 

@@ -1,5 +1,5 @@
 -- The content of a packet: what exclusive-or acts on (01, "Bytes on the wire"; 02, request 1).
-use Rattle.std.specs.Prelude.{◌≡◌, refl, Bool, ◌&&◌, List, [], ◌∷◌, map, ℕ, max, eqb, get_or, drop}
+use Rattle.std.specs.Prelude.{Bool, ◌&&◌, List, [], ◌∷◌, map, ℕ, max, eqb, get_or, drop}
 use Rattle.std.specs.Int.Bits.{bit_xor}
 use Rattle.xor.specs.Xor.{zip_xor, xor_all, xor_payloads}
 pub use Rattle.xor.specs.Same.{same}

@@ -1,14 +1,9 @@
 -- What is known where no refusal of a call applied, by name: one record a call. A refusal more is a field more, and moves no other.
-use Rattle.std.specs.Prelude.{◌≡◌, refl, Bool, true, false, not, ◌&&◌, ◌||◌, List, [], ◌∷◌, ◌++◌, map, ℕ, ◌+◌, ◌-◌, ◌<◌, ◌≤◌, length, drop, eqb, leb, ltb}
-use Rattle.std.proofs.Common.{sym, ap, ◌∙◌, length-drop, ltb-true, lt-ltb, le-leb}
-use Rattle.std.proofs.Math.Bool.{and-false}
-use Rattle.std.proofs.lemmas.Bool.{false≢true, not-false}
-use Rattle.answer.specs.First.{first, None, first_past, first-end, first-append, first-none, first-front, first_back}
+use Rattle.std.specs.Prelude.{◌≡◌, true, false, List, ℕ, ◌+◌, ◌<◌, ◌≤◌, length, drop}
 use Rattle.sequence.specs.Lists.{up_to, any}
-use Rattle.sequence.proofs.Lists.{any_false, false-any, or_split}
 use Rattle.rtp.specs.Rtp.{rtp_header_size, sequence_number}
-use Rattle.rtp.specs.Fec.{parity_header_size, snbase, d_bit, offset, na, offset_of, na_of}
-use Rattle.rtp.specs.Faults.{no_row, media_tests, parity_tests}
+use Rattle.rtp.specs.Fec.{parity_header_size, snbase}
+use Rattle.rtp.specs.Faults.{no_row}
 use Rattle.rtp.specs.Length.{good_length}
 use Rattle.window.specs.declared.Window.{Window}
 use Rattle.window.specs.Limits.{least_missing, rows, parity_room}
@@ -16,7 +11,7 @@ use Rattle.window.specs.Store.{Store}
 use Rattle.window.specs.Group.{position, group, inside, is_missing, missing}
 use Rattle.calls.specs.Content.{same_recovery, recovery_over}
 use Rattle.calls.specs.Accept.{recovery_of}
-use Rattle.calls.specs.Call.{standing_tests, media_place_tests, media_offer_tests, holds, holds_same, contradicts, parity_place_tests, parity_offer_tests, read_place_tests, read_tests, write_place_tests, write_tests}
+use Rattle.calls.specs.Call.{holds}
 use Rattle.calls.specs.Standing.{Standing}
 
 -- no refusal of a media offer applied

@@ -9,7 +9,6 @@ use Rattle.answer.specs.First.{first}
 use Rattle.sequence.specs.Lists.{all}
 use Rattle.sequence.proofs.Lists.{and_split, or_split}
 use Rattle.rtp.specs.Bytes.{byte, be16}
-use Rattle.capture.specs.declared.Reader.{Reader}
 use Rattle.capture.specs.declared.Reading.{Reading}
 use Rattle.capture.specs.declared.Header.{Header}
 use Rattle.capture.specs.Bytes.{Bytes}

@@ -1,7 +1,6 @@
 -- The request's example, by computation.
-use Rattle.std.specs.Prelude.{◌≡◌, refl, Bool, true, false, not, ◌&&◌, ◌||◌, List, [], ◌∷◌, ℕ, zero, suc, eqb, ltb, leb, set}
-use Rattle.rtp.specs.Bytes.{byte}
-use Rattle.capture.specs.Content.{Content, file_of}
+use Rattle.std.specs.Prelude.{◌≡◌, refl, true}
+use Rattle.capture.specs.Content.{file_of}
 use Rattle.capture.specs.Stage.{judge}
 use Rattle.capture.specs.Reads.{content_of}
 use Rattle.capture.specs.Example.{example, content, same, places}

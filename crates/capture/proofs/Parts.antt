@@ -1,5 +1,5 @@
 -- The file of lent parts, and the parts of a content.
-use Rattle.std.specs.Prelude.{◌≡◌, refl, true, ◌&&◌, List, [], ◌∷◌, ◌++◌, ℕ, suc, ◌+◌, ◌*◌, ◌≤◌, ◌<◌, eqb, ltb, leb, length, take, drop}
+use Rattle.std.specs.Prelude.{◌≡◌, refl, true, ◌&&◌, List, [], ◌∷◌, ◌++◌, ℕ, suc, ◌+◌, ◌*◌, ◌≤◌, eqb, ltb, leb, length, take, drop}
 use Rattle.std.proofs.Common.{ap, ap₂, ◌∙◌, arith, ltb-true, le-leb, leb-true, eq-eqb, eqb-true, length-append, length-drop, take-append-drop, length-take-le}
 use Rattle.sequence.specs.Lists.{all}
 use Rattle.sequence.proofs.Lists.{and_split}

@@ -3,7 +3,7 @@ use Rattle.std.specs.Prelude.{◌≡◌, refl, List, [], ◌∷◌, ◌++◌, �
 use Rattle.std.proofs.Common.{sym, ap, ap₂, subst, ◌∙◌, append_assoc, ⊎_elim, eq-or-lt_of_le, arith, length-append, get_or-append-add, take_at, drop_at}
 use Rattle.rtp.specs.Bytes.{byte, be16, be32}
 use Rattle.capture.proofs.Bytes.{be16-bytes16, be32-bytes32}
-use Rattle.capture.specs.Content.{Entry, Content, line_of, table, bodies, header, table_end, file_of, ProperEntries, Proper}
+use Rattle.capture.specs.Content.{Entry, Content, line_of, table, bodies, header, table_end, file_of, Proper}
 use Rattle.capture.specs.Reads.{count_at, port_at, size_at, start_at, body_at, entry_at, entries_from, content_of, Standing, Line, place_of, Row}
 
 -- ---- one line

@@ -4,7 +4,7 @@ use Rattle.std.proofs.Common.{sym, ap, ap₂, ◌∙◌, append_assoc, arith, lt
 use Rattle.rtp.specs.Bytes.{be16, bytes16}
 use Rattle.capture.specs.Bytes.{Bytes}
 use Rattle.capture.proofs.Bytes.{bytes_take, bytes_drop, high, low}
-use Rattle.capture.specs.Content.{Entry, Content, line_of, table, bodies, header, table_end, file_of, ProperEntries, Proper}
+use Rattle.capture.specs.Content.{Entry, Content, line_of, table, bodies, header, table_end, file_of, Proper}
 use Rattle.capture.specs.Stage.{Stage, enter, head, line, body, refused, good_byte, size_after, count_after, lined, headed, feed, run, whole, start, judge}
 use Rattle.capture.proofs.StageLaws.{run-refused}
 use Rattle.capture.specs.Refuses.{Going, Fed, Lined, Counted, Headed, Tabled}

@@ -1,8 +1,7 @@
 -- A file judged byte by byte, in a few numbers: bytes of the header and the entry count so far; in a line of the table, the lines
-use Rattle.std.specs.Prelude.{◌≡◌, refl, Bool, true, false, cond, ◌&&◌, List, [], ◌∷◌, ◌++◌, ℕ, zero, suc, ◌+◌, ◌*◌, ◌-◌, ◌/◌, ◌%◌, ◌≤◌, ◌<◌, eqb, ltb, leb, length, get_or, drop}
+use Rattle.std.specs.Prelude.{◌≡◌, refl, Bool, true, false, cond, List, [], ◌∷◌, ◌++◌, ℕ, zero, suc, ◌+◌, ◌*◌, ◌-◌, ◌≤◌, ◌<◌, leb, length, get_or, drop}
 use Rattle.std.proofs.Common.{sym, ap, ◌∙◌, arith, le-leb, leb-true, leb-false, eq-eqb, ne_eqb, length-drop, drop_of_length-le, drop-cons, add-one}
 use Rattle.std.proofs.lemmas.Bool.{lt-leb}
-use Rattle.capture.specs.Content.{header_size, line_size, most_entries, most_body, table_end}
 use Rattle.capture.specs.declared.Stage.{Stage}
 use Rattle.capture.specs.declared.Stage.TheVariants.{Head as head, Line as line, Body as body, Refused as refused}
 use Rattle.capture.specs.Stage.{enter, good_byte, size_after, count_after, less, feed, run, counts, skipped}

@@ -1,9 +1,8 @@
 -- The request's example, by computation.
-use Rattle.std.specs.Prelude.{◌≡◌, refl, Bool, true, false, not, ◌&&◌, ◌||◌, List, [], ◌∷◌, ℕ, zero, suc, eqb, ltb, leb, set}
+use Rattle.std.specs.Prelude.{Bool, true, false, not, ◌&&◌, ◌||◌, List, [], ◌∷◌, ℕ, zero, suc, eqb, ltb, leb, set}
 use Rattle.rtp.specs.Bytes.{byte}
-use Rattle.capture.specs.Content.{Content, file_of}
+use Rattle.capture.specs.Content.{Content}
 use Rattle.capture.specs.Stage.{judge}
-use Rattle.capture.specs.Reads.{content_of}
 
 abbrev pub example : List ℕ
 example =

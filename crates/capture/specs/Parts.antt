@@ -1,10 +1,8 @@
 -- The file of lent parts, and the parts of a content.
-use Rattle.std.specs.Prelude.{◌≡◌, refl, true, ◌&&◌, List, [], ◌∷◌, ◌++◌, ℕ, suc, ◌+◌, ◌*◌, ◌≤◌, ◌<◌, eqb, ltb, leb, length, take, drop}
-use Rattle.std.proofs.Common.{ap, ap₂, ◌∙◌, arith, ltb-true, le-leb, leb-true, eq-eqb, eqb-true, length-append, length-drop, take-append-drop, length-take-le}
+use Rattle.std.specs.Prelude.{◌≡◌, true, List, ◌++◌, ℕ, ◌≤◌, ◌<◌, length}
 use Rattle.sequence.specs.Lists.{all}
-use Rattle.sequence.proofs.Lists.{and_split}
-use Rattle.capture.specs.Content.{most_entries, most_body, header, line_of, table, bodies, table_end, file_of}
-use Rattle.capture.specs.Calls.{Parts, entries_of, content_of_parts, total, good_port, short_body, numbers_fit, entries_fit, lines}
+use Rattle.capture.specs.Content.{most_entries, header, table_end}
+use Rattle.capture.specs.Calls.{Parts, total, good_port, short_body, lines}
 
 -- what is known of lists that fit
 pub record Fit (ports lengths : List ℕ) (bytes : ℕ) : Type 0 where

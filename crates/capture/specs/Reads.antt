@@ -1,8 +1,7 @@
 -- What is read back from a file, by position.
-use Rattle.std.specs.Prelude.{◌≡◌, refl, List, [], ◌∷◌, ◌++◌, ℕ, zero, suc, ◌+◌, ◌*◌, ◌/◌, ◌%◌, ◌≤◌, ◌<◌, length, get_or, take, drop}
-use Rattle.std.proofs.Common.{sym, ap, ap₂, subst, ◌∙◌, append_assoc, ⊎_elim, eq-or-lt_of_le, arith, length-append, get_or-append-add, take_at, drop_at}
+use Rattle.std.specs.Prelude.{◌≡◌, List, [], ◌∷◌, ◌++◌, ℕ, zero, suc, ◌+◌, ◌*◌, ◌≤◌, ◌<◌, length, take, drop}
 use Rattle.rtp.specs.Bytes.{byte, be16, be32}
-use Rattle.capture.specs.Content.{Entry, Content, line_of, table, bodies, header, table_end, file_of, ProperEntries, Proper}
+use Rattle.capture.specs.Content.{Entry, Content, table, bodies, table_end, ProperEntries}
 
 -- how many entries a file says that it has
 abbrev pub count_at : List ℕ → ℕ

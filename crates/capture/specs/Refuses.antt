@@ -1,10 +1,9 @@
 -- What is accepted is a proper content's file.
-use Rattle.std.specs.Prelude.{◌≡◌, refl, Bool, true, false, cond, ◌&&◌, List, [], ◌∷◌, ◌++◌, ℕ, zero, suc, ◌+◌, ◌*◌, ◌/◌, ◌%◌, ◌≤◌, ◌<◌, ltb, leb, length, take, drop}
-use Rattle.std.proofs.Common.{sym, ap, ap₂, ◌∙◌, append_assoc, arith, ltb-true, leb-true, eqb-true, length-take, length-drop, take-append-drop, drop_of_length-le, drop-drop}
-use Rattle.rtp.specs.Bytes.{be16, bytes16}
+use Rattle.std.specs.Prelude.{◌≡◌, Bool, true, List, [], ◌∷◌, ◌++◌, ℕ, ◌+◌, ◌≤◌, ◌<◌, length, drop}
+use Rattle.rtp.specs.Bytes.{bytes16}
 use Rattle.capture.specs.Bytes.{Bytes}
-use Rattle.capture.specs.Content.{Entry, Content, line_of, table, bodies, header, table_end, file_of, ProperEntries, Proper}
-use Rattle.capture.specs.Stage.{Stage, enter, head, line, body, refused, good_byte, size_after, count_after, lined, headed, feed, run, whole, start, judge}
+use Rattle.capture.specs.Content.{Entry, line_of, table, bodies, table_end, ProperEntries}
+use Rattle.capture.specs.Stage.{Stage, enter, head, run, whole}
 
 -- bytes that are accepted from a state on
 pub record Going (r : Stage) : Type 0 where

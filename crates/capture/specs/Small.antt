@@ -1,9 +1,6 @@
 -- The numbers of a state stay small: they fit 32 bits, and so do a file's length and every start.
-use Rattle.std.specs.Prelude.{◌≡◌, refl, Bool, true, false, cond, List, [], ◌∷◌, ℕ, zero, suc, ◌+◌, ◌*◌, ◌≤◌, ◌<◌, eqb, ltb, leb}
-use Rattle.std.proofs.Common.{⊎_elim, eq-or-lt_of_le, le_of_suc-le-suc, arith, ltb-false, leb-true, ne_eqb}
-use Rattle.std.proofs.lemmas.Bool.{eqb-false}
-use Rattle.capture.specs.Content.{table_end}
-use Rattle.capture.specs.Stage.{Stage, enter, head, line, body, refused, good_byte, size_after, count_after, lined, headed, feed, run}
+use Rattle.std.specs.Prelude.{ℕ, ◌+◌, ◌*◌, ◌≤◌, ◌<◌}
+use Rattle.capture.specs.Stage.{Stage, head, line, body, refused}
 
 pub record SmallHead (at count : ℕ) : Type 0 where
   pub at_small : at < 12

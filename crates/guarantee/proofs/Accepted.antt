@@ -18,7 +18,7 @@ use Rattle.calls.specs.Content.{Content, Recovery, recovery_at}
 use Rattle.calls.specs.State.{State, recount, put, put_record, store_media, rebuild, fits_over, count_spoilt, held_record, hold}
 use Rattle.calls.specs.Settle.{round, settle}
 use Rattle.calls.specs.Accept.{first_free, take_parity}
-use Rattle.calls.specs.Call.{Outcome, settled}
+use Rattle.calls.specs.Call.{settled}
 use Rattle.peel.specs.Group as Peel
 use Rattle.peel.specs.Peel.{Offer, media, check, View, gone, miss, Take, Spoilt, Step, Runs, done, took, made, Spoiling}
 use Rattle.peel.proofs.Peel.{pass, runs_then, steps-run, spoiling_then}

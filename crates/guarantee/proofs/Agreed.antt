@@ -9,7 +9,7 @@ use Rattle.answer.specs.Number.{number_of}
 use Rattle.sequence.specs.Lists.{any}
 use Rattle.sequence.proofs.Lists.{or_split as neither}
 use Rattle.rtp.specs.Bytes.{byte, be16, be32}
-use Rattle.rtp.specs.Rtp.{media_type, parity_type, version, padding, extension, csrc_count, marker, payload_type, sequence_number, timestamp, ssrc}
+use Rattle.rtp.specs.Rtp.{media_type, parity_type, version, padding, extension, csrc_count, marker, payload_type}
 use Rattle.rtp.specs.Fec.{parity_header_size, offset_of, na_of, by_na, snbase, e_bit, type_recovery, mask, x_bit, d_bit, fec_type, index, offset, na, snbase_ext}
 use Rattle.rtp.specs.Faults.{bad_rtp, bad_fec, bad_profile, parity_tests, no_row}
 use Rattle.rtp.specs.Length.{good_length}

@@ -1,21 +1,17 @@
 -- The customer's night goes on: a column waits for two packets while the window moves by one, rebuilds the last of its group when the other
-use Rattle.std.specs.Prelude.{◌≡◌, refl, List, [], ◌∷◌, ℕ, ◌*◌, ◌%◌, replicate}
+use Rattle.std.specs.Prelude.{◌≡◌, refl, [], ◌∷◌, ◌%◌}
 use Rattle.std.proofs.Common.{inl, inr, mod-lt, arith}
 use Rattle.answer.specs.First.{first}
 use Rattle.peel.specs.Rest.{rounds}
-use Rattle.rtp.specs.Fec.{column}
-use Rattle.window.specs.Group.{group}
 use Rattle.window.specs.Order.{disorder}
-use Rattle.calls.specs.Datagram.{parity_packet}
 use Rattle.calls.specs.State.{rebuild}
 use Rattle.calls.specs.Settle.{next, release_all, round, settle}
 use Rattle.calls.specs.Call.{asked, opened, offered_media, offered_parity}
 use Rattle.calls.specs.Move.{release_behind, moved}
-use Rattle.guarantee.specs.Demand3.{columnPort, Offer, recovery_sent}
 use Rattle.guarantee.specs.Night.{window, lent, ts_packet, stretch, outer, media}
 use Rattle.guarantee.proofs.Night.{fills}
 use Rattle.guarantee.proofs.Lived.{life}
-use Rattle.guarantee.specs.Life.{Event, offer, move, born, after, Feed, Feeds, AllFair, Lived}
+use Rattle.guarantee.specs.Life.{born, after, Feeds, AllFair, Lived}
 use Rattle.guarantee.specs.Dawn.{second, move_by, events, feed}
 
 -- the datagrams written out: those of the column, also the one that was never received

@@ -1,5 +1,5 @@
 -- The invariant of a run: the store is in order, and the groups of its parity in hand are among those that there is room for. Every
-use Rattle.std.specs.Prelude.{◌≡◌, refl, ◌≢◌, ◌⊎◌, Bool, true, false, ◌&&◌, ℕ, ◌^◌, ◌<◌, ◌≤◌, length, eqb}
+use Rattle.std.specs.Prelude.{◌≡◌, refl, ◌≢◌, ◌⊎◌, Bool, true, false, ◌&&◌, ℕ, ◌<◌, ◌≤◌, length, eqb}
 use Rattle.std.proofs.Common.{sym, ap, ◌∙◌, subst, inl, inr, ⊎_elim, true≢false, arith, eqb-true}
 use mathlib.Core.List.Memᴰ
 use mathlib.Core.List.{List, [], ◌∷◌, Memᴰ}
@@ -12,7 +12,7 @@ use Rattle.rtp.specs.Rtp.{sequence_number}
 use Rattle.rtp.specs.Fec.{snbase}
 use Rattle.rtp.specs.Faults.{media_tests, parity_tests}
 use Rattle.window.specs.declared.Window.{Window}
-use Rattle.window.specs.Limits.{width, rows, parity_room, set_up_tests}
+use Rattle.window.specs.Limits.{rows, parity_room}
 use Rattle.window.specs.Store.{Store, record_at}
 use Rattle.window.specs.Group.{position, group, inside, is_missing}
 use Rattle.window.specs.Order.{is_in_use}
@@ -20,14 +20,14 @@ use Rattle.calls.specs.Content.{Recovery, recovery_at}
 use Rattle.calls.specs.State.{recount}
 use Rattle.calls.specs.Call.{Outcome, holds, contradicts, parity_offer_tests, offered_media, offered_parity}
 use Rattle.calls.proofs.Passed.{media-passed, parity-passed, media-passes, parity-passes}
-use Rattle.peel.specs.Peel.{Offer, check, Full, Here, Runs, done, took, Spoiling}
+use Rattle.peel.specs.Peel.{Offer, check, Full, Here, done, took}
 use Rattle.peel.proofs.Peel.{pass, sound-has, sound-runs}
 use Rattle.guarantee.specs.Ranges.{Out}
 use Rattle.guarantee.proofs.Ranges.{decide, any_none, any_some, up_to-lt, take_out, pigeon}
 use Rattle.guarantee.specs.Packets.{Packet}
 use Rattle.guarantee.specs.View.{code, check_at, Held, view}
 use Rattle.guarantee.proofs.View.{group-lt, miss-mark}
-use Rattle.guarantee.specs.Order.{Ordered, stands}
+use Rattle.guarantee.specs.Order.{stands}
 use Rattle.guarantee.specs.Accepted.{Settled}
 use Rattle.guarantee.specs.Lying.{Lying}
 use Rattle.guarantee.proofs.Lying.{media-believed, parity-lies, contradicted, lying_now}

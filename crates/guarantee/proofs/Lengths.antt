@@ -1,5 +1,5 @@
 -- Lengths (02, request 1): payloads with zeros up to P bytes, whole units, and what fits a parity packet.
-use Rattle.std.specs.Prelude.{◌≡◌, refl, Bool, true, ◌&&◌, ℕ, zero, suc, ◌%◌, ◌<◌, ◌≤◌, length, take, drop, replicate, eqb, leb}
+use Rattle.std.specs.Prelude.{◌≡◌, refl, true, ◌&&◌, ℕ, zero, suc, ◌%◌, ◌<◌, ◌≤◌, length, take, replicate, eqb, leb}
 use Rattle.std.proofs.Common.{sym, ap, ◌∙◌, subst, arith, length-append, eqb-true, leb-true, le-leb, take_at, take-take, length-take-le}
 use mathlib.Core.List.{List, [], ◌∷◌, ◌++◌, map, Memᴰ}
 use Rattle.std.proofs.Math.Nat.{max-zero, le-max_left}

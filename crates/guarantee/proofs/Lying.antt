@@ -18,10 +18,10 @@ use Rattle.window.specs.Group.{group, inside, is_missing, missing}
 use Rattle.calls.specs.Content.{Recovery, same_content, same_recovery, recovery_over}
 use Rattle.calls.specs.Accept.{recovery_of, accept_media, accept_parity}
 use Rattle.calls.specs.Call.{standing_tests, media_offer_tests, holds, holds_same, contradicts, parity_place_tests, parity_offer_tests, refused, settled, begun, offered_media, offered_parity}
-use Rattle.peel.specs.Peel.{Offer, check, Runs, done}
+use Rattle.peel.specs.Peel.{Offer, Runs, done}
 use Rattle.peel.proofs.Peel.{runs_then}
 use Rattle.guarantee.specs.Packets.{Packet}
-use Rattle.guarantee.specs.View.{group_of, code, view}
+use Rattle.guarantee.specs.View.{code, view}
 use Rattle.guarantee.specs.Offers.{parity_seen}
 use Rattle.guarantee.specs.Lying.{Others, Lying}
 

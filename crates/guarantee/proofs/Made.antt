@@ -26,7 +26,7 @@ use Rattle.peel.proofs.Peel as TheoryLaws
 use Rattle.guarantee.specs.Packets.{Whole, Packet, xored, zeros, packet_of, content_from}
 use Rattle.guarantee.proofs.Packets.{length-first, content_from_lem, packet-content, packet-xor, packet-total, whole-xor, whole_xors}
 use Rattle.guarantee.proofs.Lengths.{length-padded}
-use Rattle.guarantee.specs.View.{code, packet_at, view, Good}
+use Rattle.guarantee.specs.View.{code, packet_at, view}
 use Rattle.guarantee.proofs.View.{slot-present, slot_is, content-whole, recovery_whole, mark-one}
 use Rattle.guarantee.specs.Order.{standing}
 use Rattle.guarantee.specs.Accepted.{Settled}

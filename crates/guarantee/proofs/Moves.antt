@@ -15,7 +15,6 @@ use Rattle.window.specs.Store.{Store, record_at}
 use Rattle.window.specs.Group.{is_missing, missing, present}
 use Rattle.window.specs.Order.{is_in_use, missing_at}
 use Rattle.calls.specs.Content.{Content, Recovery, xor_contents, content_at, recovery_at, content_over, fits}
-use Rattle.calls.specs.State.{put, put_record}
 use Rattle.peel.specs.Group.{total, None, One, one-count, none-count, none_insert}
 use Rattle.peel.specs.Peel.{gone, miss, Keeps, Full, Rebuild, Spoilt, Step}
 use Rattle.guarantee.proofs.Ranges.{count_raise, count-keep}

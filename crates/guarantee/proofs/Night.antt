@@ -1,26 +1,21 @@
 -- The customer's night, as an instance of demand 3 and through the calls: a column that runs across the wrap of the sequence counter
-use Rattle.std.specs.Prelude.{◌≡◌, refl, Bool, true, false, cond, ℕ, zero, suc, ◌+◌, ◌*◌, ◌%◌, ◌<◌, eqb, length, replicate}
+use Rattle.std.specs.Prelude.{◌≡◌, refl, Bool, true, false, cond, ℕ, zero, suc, ◌+◌, ◌%◌, ◌<◌, eqb, length, replicate}
 use Rattle.std.proofs.Common.{⊎_elim, arith}
 use mathlib.Core.List.Memᴰ
-use mathlib.Core.List.{List, [], ◌∷◌, ◌++◌, Memᴰ}
+use mathlib.Core.List.{[], ◌∷◌, ◌++◌, Memᴰ}
 use Rattle.answer.specs.declared.Answer.TheVariants.{Done, Refused}
 use Rattle.answer.specs.First.{first}
 use Rattle.peel.specs.Rest.{rounds}
 use Rattle.rtp.specs.Fec.{column}
 use Rattle.rtp.specs.Length.{good_length}
-use Rattle.window.specs.declared.Window.{Window}
 use Rattle.window.specs.Limits.{width}
-use Rattle.window.specs.Store.{Store}
-use Rattle.window.specs.Group.{group}
 use Rattle.window.specs.Order.{disorder}
 use Rattle.sequence.specs.Wrap.{number_at}
 use Rattle.calls.specs.Content.{content_at}
-use Rattle.calls.specs.Datagram.{media_packet, Outer, parity_packet}
 use Rattle.calls.specs.State.{rebuild}
 use Rattle.calls.specs.Settle.{next, release_all, round, settle}
-use Rattle.calls.specs.Call.{Outcome, asked, opened, offered_media, offered_parity, read_out, wrote_parity}
-use Rattle.guarantee.specs.Bench.{uncleared_store}
-use Rattle.guarantee.specs.Demand3.{mediaPort, columnPort, Offer, run, answers, Stretch, Fills, content_sent, recovery_sent, Unaltered, names_of, Received, media_name, Given, mark_at, Hidden, Demand3, different}
+use Rattle.calls.specs.Call.{opened, offered_media, offered_parity, read_out, wrote_parity}
+use Rattle.guarantee.specs.Demand3.{Offer, run, answers, Fills, Unaltered, names_of, Received, media_name, Given, mark_at, Hidden, Demand3, different}
 use Rattle.guarantee.proofs.Ranges.{decide}
 use Rattle.guarantee.proofs.Theorem.{demand3}
 use Rattle.guarantee.specs.Night.{window, lent, ts_packet, stretch, outer, media, parity, offers, morning}

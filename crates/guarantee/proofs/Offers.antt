@@ -12,13 +12,10 @@ use Rattle.window.specs.Limits.{width, rows}
 use Rattle.window.specs.Store.{Store, record_at}
 use Rattle.window.specs.Group.{position}
 use Rattle.window.specs.Order.{is_in_use}
-use Rattle.calls.specs.Content.{Recovery}
 use Rattle.calls.specs.State.{recount}
 use Rattle.calls.specs.Accept.{content_of, recovery_of}
 use Rattle.calls.specs.Call.{Outcome, media_offer_tests, holds, parity_offer_tests, refused, offered_media, offered_parity}
 use Rattle.calls.proofs.Passed.{media-passed, parity-passed}
-use Rattle.peel.specs.Peel.{Offer, media, check}
-use Rattle.guarantee.specs.Packets.{Packet, packet_of}
 use Rattle.guarantee.proofs.Lengths.{padded_clean, units_le}
 use Rattle.guarantee.specs.View.{check_at}
 use Rattle.guarantee.specs.Order.{standing}

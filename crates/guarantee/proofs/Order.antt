@@ -1,20 +1,16 @@
 -- What refusals 1 to 5 let pass, as facts, and back: a store in order (window's InOrder.antt) is one that satisfies View.antt's Good and Missing least_missing.
-use Rattle.std.specs.Prelude.{◌≡◌, refl, Bool, true, false, ◌||◌, [], ◌∷◌, ℕ, ◌*◌, ◌^◌, ◌<◌, length, eqb, ltb}
-use Rattle.std.proofs.Common.{sym, ap, ◌∙◌, true≢false, arith, eqb-true, eq-eqb, le-ltb}
-use Rattle.std.proofs.Math.Decide.{ℕ_discrete, dec_lt}
+use Rattle.std.specs.Prelude.{◌≡◌, ◌||◌, [], ◌∷◌, ℕ, ◌^◌, ◌<◌, ltb}
+use Rattle.std.proofs.Common.{sym, ◌∙◌}
 use Rattle.answer.specs.First.{first, None, first-append, first-end, first-none, first-front}
-use Rattle.sequence.proofs.Lists.{and_split as both}
 use Rattle.window.specs.declared.Window.{Window}
-use Rattle.window.specs.Limits.{width, least_missing, rows, set_up_tests}
-use Rattle.window.specs.Bounds.{SetUp, Sized, set_up_good}
-use Rattle.window.specs.InOrder.{InOrder, order_in}
-use Rattle.window.specs.Store.{Store, short_store, record_at}
-use Rattle.window.specs.Order.{is_in_use, same_group, disorder}
+use Rattle.window.specs.Limits.{width, set_up_tests}
+use Rattle.window.specs.Bounds.{SetUp, set_up_good}
+use Rattle.window.specs.Store.{Store, short_store}
+use Rattle.window.specs.Order.{disorder}
 use Rattle.calls.specs.State.{recount}
 use Rattle.calls.specs.Call.{standing_tests}
-use Rattle.calls.specs.Standing.{Standing}
 use Rattle.calls.proofs.Standing.{standing-good}
-use Rattle.guarantee.specs.View.{Limits, check_at, Good, Missing}
+use Rattle.guarantee.specs.View.{Limits}
 use Rattle.guarantee.specs.Demand3.{Stretch}
 use Rattle.guarantee.specs.Start.{Start}
 use Rattle.guarantee.specs.Order.{Ordered, standing}

@@ -3,7 +3,6 @@ use Rattle.std.specs.Prelude.{◌≡◌, refl, ◌≢◌, List, [], ◌∷◌, �
 use Rattle.std.proofs.Common.{sym, ap, ◌∙◌}
 use Rattle.std.proofs.Math.Seq.{paste}
 use Rattle.xor.specs.Xor.{padded}
-use Rattle.xor.specs.Parts.{part_fits}
 use Rattle.xor.specs.Parts.{part_front, part_rest}
 use Rattle.window.specs.Store.{payload_in}
 use Rattle.guarantee.specs.Lengths.{Clean}

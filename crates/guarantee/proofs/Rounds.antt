@@ -1,5 +1,5 @@
 -- Rounds (calls' Settle.antt) as an engine of the theory: each is a number of steps, and enough of them bring the receiver to rest.
-use Rattle.std.specs.Prelude.{◌≡◌, refl, ◌≢◌, ◌⊎◌, Bool, false, cond, ◌&&◌, ℕ, zero, suc, ◌+◌, ◌-◌, ◌<◌, ◌≤◌, length, eqb, ltb}
+use Rattle.std.specs.Prelude.{◌≡◌, refl, ◌≢◌, Bool, false, cond, ◌&&◌, ℕ, zero, suc, ◌+◌, ◌-◌, ◌<◌, ◌≤◌, length, eqb, ltb}
 use Rattle.std.proofs.Common.{sym, ap, ◌∙◌, ⊎_elim, true≢false, arith, eqb-true, eq-eqb}
 use Rattle.std.proofs.Math.Path.{subst}
 use Rattle.std.proofs.Math.Logic.{inl, inr}
@@ -15,10 +15,10 @@ use Rattle.window.specs.Limits.{rows}
 use Rattle.window.specs.Store.{Store}
 use Rattle.window.specs.Order.{is_in_use, group_at, missing_at}
 use Rattle.calls.specs.Content.{Recovery, recovery_at}
-use Rattle.calls.specs.State.{State, scene, recount, rebuild, count_spoilt, release, release_if, release_below}
+use Rattle.calls.specs.State.{State, rebuild, count_spoilt, release, release_if, release_below}
 use Rattle.calls.specs.Settle.{ready, rank, better, next_below, next, spent as idle, release_all, fits_at, rebuild_by, round_by, round}
 use Rattle.peel.specs.Group.{count_none}
-use Rattle.peel.specs.Peel.{gone, miss, Spoilt, Steps, stop, go_on}
+use Rattle.peel.specs.Peel.{gone, miss, Spoilt, stop, go_on}
 use Rattle.peel.specs.Rest.{Still, Engine}
 use Rattle.peel.proofs.Rest.{steps_then}
 use Rattle.guarantee.specs.View.{code, check_at, Held, view, Good, Missing}

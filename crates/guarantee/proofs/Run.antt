@@ -24,14 +24,14 @@ use Rattle.guarantee.proofs.Ranges.{up_to-mem, keep-mem}
 use Rattle.guarantee.specs.Packets.{Packet}
 use Rattle.guarantee.specs.View.{code, view}
 use Rattle.guarantee.proofs.Recount.{fills-on, holds_on, unaltered-on}
-use Rattle.guarantee.specs.Order.{Ordered, standing}
+use Rattle.guarantee.specs.Order.{standing}
 use Rattle.guarantee.proofs.Order.{limits, set_up_passes}
 use Rattle.guarantee.specs.Lying.{Lying}
 use Rattle.guarantee.proofs.Lying.{lying-then, lying-more}
 use Rattle.guarantee.specs.Fine.{Opened, Fine, Goes}
 use Rattle.guarantee.proofs.Fine.{fine-media, fine-parity, refused-parity}
-use Rattle.guarantee.specs.Demand3.{Port, mediaPort, columnPort, rowPort, Offer, call_of, offered, run, answers, Stretch, Fills, UnalteredOn, Unaltered, Name, parity_name, name_on, name_of, names_of, group_named, distinct_groups}
-use Rattle.guarantee.specs.Start.{Holds, media_held, parity_held, every, counts, counted, received_from, GivenFrom}
+use Rattle.guarantee.specs.Demand3.{Port, mediaPort, columnPort, rowPort, Offer, call_of, offered, run, answers, Stretch, Fills, UnalteredOn, Name, parity_name, name_on, name_of, names_of, group_named, distinct_groups}
+use Rattle.guarantee.specs.Start.{media_held, parity_held, every, counts, counted, received_from, GivenFrom}
 use Rattle.guarantee.specs.Sent.{seen_on, seen}
 use Rattle.guarantee.proofs.Sent.{media-read, parity-read, position-number}
 use Rattle.guarantee.proofs.Names.{distinct_has}

@@ -28,9 +28,8 @@ use Rattle.guarantee.proofs.Lengths.{length-padded, padded_clean, zeros_clean, p
 use Rattle.guarantee.specs.View.{Limits, group_of, code}
 use Rattle.guarantee.proofs.View.{group-lt}
 use Rattle.guarantee.proofs.Wire.{media-number, media-content, media-faultless, parity-snbase, parity-recovery, parity-faultless, xors_lt}
-use Rattle.guarantee.specs.Offers.{media_seen, parity_seen}
-use Rattle.guarantee.specs.Demand3.{Port, mediaPort, columnPort, rowPort, Offer, Stretch, Fills, content_sent, recovery_sent, UnalteredMedia, UnalteredParity, UnalteredOn, media_name, parity_name, name_on}
-use Rattle.guarantee.specs.Sent.{sent, seen_on, seen}
+use Rattle.guarantee.specs.Demand3.{Port, mediaPort, columnPort, rowPort, Stretch, Fills, content_sent, recovery_sent, UnalteredMedia, UnalteredParity, UnalteredOn, media_name, parity_name, name_on}
+use Rattle.guarantee.specs.Sent.{sent, seen_on}
 
 -- a media packet is not a check
 pub not-check : {K C X : Type 0} {i : ℕ} {x : X} {k : K} {v : C} → ◌≡◌ {A = Theory.Offer K C X} (Theory.media i x) (Theory.check k v) → ⊥

@@ -5,14 +5,13 @@ use Rattle.answer.specs.declared.Answer.TheVariants.{Done}
 use Rattle.answer.specs.First.{first}
 use Rattle.peel.specs.Rest.{rounds}
 use Rattle.rtp.specs.Fec.{column}
-use Rattle.window.specs.Group.{group}
 use Rattle.window.specs.Order.{disorder}
 use Rattle.calls.specs.Content.{Recovery}
 use Rattle.calls.specs.Datagram.{parity_packet}
 use Rattle.calls.specs.State.{rebuild}
 use Rattle.calls.specs.Settle.{next, release_all, round, settle}
 use Rattle.calls.specs.Call.{opened, offered_media, offered_parity}
-use Rattle.guarantee.specs.Demand3.{columnPort, Offer, run, answers, recovery_sent, mark_at}
+use Rattle.guarantee.specs.Demand3.{columnPort, Offer, run, answers, mark_at}
 use Rattle.guarantee.specs.Night.{window, lent, ts_packet, stretch, outer, media}
 use Rattle.guarantee.specs.Spoilt.{honest, nothing}
 

@@ -1,17 +1,16 @@
 -- Parity that contradicts its whole group (02, request 6), computed through the calls on the window of Night.antt: the column of positions 0, 4,
-use Rattle.std.specs.Prelude.{◌≡◌, refl, List, [], ◌∷◌, map, ℕ, get_or, replicate, set}
+use Rattle.std.specs.Prelude.{◌≡◌, refl, [], ◌∷◌, map, get_or, replicate}
 use Rattle.answer.specs.declared.Answer.TheVariants.{Done}
 use Rattle.answer.specs.First.{first}
 use Rattle.peel.specs.Rest.{rounds}
 use Rattle.rtp.specs.Fec.{column}
-use Rattle.window.specs.Group.{group}
 use Rattle.window.specs.Order.{disorder}
 use Rattle.calls.specs.Content.{Recovery}
 use Rattle.calls.specs.Datagram.{parity_packet}
 use Rattle.calls.specs.State.{rebuild}
 use Rattle.calls.specs.Settle.{next, release_all, round, settle}
 use Rattle.calls.specs.Call.{Outcome, refused, opened, offered_media, offered_parity}
-use Rattle.guarantee.specs.Demand3.{run, recovery_sent}
+use Rattle.guarantee.specs.Demand3.{run}
 use Rattle.guarantee.specs.Night.{window, lent, ts_packet, stretch, outer, media}
 use Rattle.guarantee.specs.Told.{true-one, other, others}
 

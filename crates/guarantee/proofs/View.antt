@@ -1,27 +1,22 @@
 -- The lent store as the theory of rebuilding sees it: a slot for each position, and the checks in hand; and what a store in order satisfies.
 use Rattle.std.proofs.Math.Path.{◌≡◌, refl}
 use Rattle.std.proofs.Common.{ap, ◌∙◌, arith, ltb-true, lt-ltb}
-use Rattle.std.specs.Prelude.{Bool, ◌&&◌, ℕ, ◌^◌, ◌<◌, ◌≤◌, length, get_or, eqb, ltb}
+use Rattle.std.specs.Prelude.{Bool, ◌&&◌, ℕ, ◌<◌, ◌≤◌, length, get_or, eqb, ltb}
 use Rattle.std.proofs.Math.Bool.{true, false, not, cond, true≢false}
 use Rattle.std.proofs.Math.Option.{Option, none, some}
 use mathlib.Core.List.{List, Memᴰ}
 use Rattle.std.proofs.lemmas.Bool.{eqb-false}
-use Rattle.sequence.specs.Lists.{up_to, count}
-use Rattle.rtp.specs.Faults.{no_row}
-use Rattle.rtp.specs.Length.{good_length}
+use Rattle.sequence.specs.Lists.{count}
 use Rattle.window.specs.declared.Window.{Window}
-use Rattle.window.specs.Limits.{width, rows}
-use Rattle.window.specs.Bounds.{SetUp, Sized}
 use Rattle.window.specs.Plain.{inside_of, group-once}
 use Rattle.window.specs.Store.{Store, length_at, record_at}
 use Rattle.window.specs.Group.{group, inside, is_missing, missing}
-use Rattle.window.specs.Order.{is_present, is_in_use, missing_at}
-use Rattle.calls.specs.Content.{Recovery, content_at, recovery_at, fits}
-use Rattle.xor.specs.Laws.{packet}
-use Rattle.peel.specs.Peel.{Code, View, gone, miss}
+use Rattle.window.specs.Order.{missing_at}
+use Rattle.calls.specs.Content.{Recovery, content_at, recovery_at}
+use Rattle.peel.specs.Peel.{gone, miss}
 use Rattle.peel.specs.Group as Peel
 use Rattle.guarantee.proofs.Ranges.{all_of, count-keep, keep_ext}
-use Rattle.guarantee.specs.Packets.{Whole, Packet, xored, zeros, packet_of, content_from}
+use Rattle.guarantee.specs.Packets.{Whole, Packet}
 use Rattle.guarantee.proofs.Parts.{length_part}
 use Rattle.guarantee.specs.View.{Limits, group_of, check_at, Shaped, packet_at, slot_at, Held, view, Good}
 

@@ -1,34 +1,15 @@
 -- Accepting a packet (calls' Accept.antt) and settling, as the theory's moves: what every accepted offer leaves behind.
-use Rattle.std.specs.Prelude.{◌≡◌, refl, ◌≢◌, ◌⊎◌, Bool, true, false, not, cond, List, [], ◌∷◌, ℕ, ◌+◌, ◌<◌, ◌≤◌, length}
-use Rattle.std.proofs.Common.{sym, ap, ap₂, ◌∙◌, subst, true≢false, arith}
-use Rattle.std.proofs.Math.Logic.{inl, inr, ⊎_elim}
-use Rattle.std.proofs.Math.Decide.{ℕ_discrete}
-use Rattle.std.proofs.lemmas.Bool.{not-true}
+use Rattle.std.specs.Prelude.{◌≡◌, ◌⊎◌, [], ◌∷◌, ℕ, ◌+◌}
 use Rattle.answer.specs.declared.Answer.TheVariants.{Done}
-use Rattle.sequence.specs.Lists.{up_to}
-use Rattle.sequence.proofs.Lists.{length-up_to}
-use Rattle.rtp.specs.Length.{good_length}
-use Rattle.window.specs.declared.Record.{Record}
 use Rattle.window.specs.declared.Window.{Window}
 use Rattle.window.specs.Store.{Store}
-use Rattle.window.specs.Group.{group, is_missing, missing}
-use Rattle.window.specs.Limits.{least_missing, rows}
-use Rattle.window.specs.Order.{used_by, is_in_use}
-use Rattle.calls.specs.Content.{Content, Recovery, recovery_at}
-use Rattle.calls.specs.State.{State, recount, put, put_record, store_media, rebuild, fits_over, count_spoilt, held_record, hold}
-use Rattle.calls.specs.Settle.{round, settle}
-use Rattle.calls.specs.Accept.{first_free, take_parity}
-use Rattle.calls.specs.Call.{Outcome, settled}
-use Rattle.peel.specs.Group as Peel
-use Rattle.peel.specs.Peel.{Offer, media, check, View, gone, miss, Take, Spoilt, Step, Runs, done, took, made, Spoiling}
-use Rattle.peel.proofs.Peel.{pass, runs_then, steps-run, spoiling_then}
-use Rattle.peel.specs.Rest.{Still, rounds}
-use Rattle.peel.proofs.Rest.{rounds-keep, rounds-steps, rounds-clear, rounds-still}
-use Rattle.guarantee.specs.Packets.{Packet, packet_of}
-use Rattle.guarantee.specs.Lengths.{Clean}
-use Rattle.guarantee.specs.View.{Limits, code, check_at, Shaped, slot_at, Held, view, Good, Missing}
-use Rattle.guarantee.specs.Moves.{rebuilt_in, Solved}
-use Rattle.guarantee.specs.Rounds.{at, Working}
+use Rattle.calls.specs.Content.{Recovery}
+use Rattle.calls.specs.State.{State, recount}
+use Rattle.calls.specs.Call.{Outcome}
+use Rattle.peel.specs.Peel.{Offer, Runs, Spoiling}
+use Rattle.guarantee.specs.Packets.{Packet}
+use Rattle.guarantee.specs.View.{code, view}
+use Rattle.guarantee.specs.Rounds.{Working}
 use Rattle.guarantee.specs.Order.{Ordered}
 
 -- the state y after a packet p was taken into a store with a packets present, of which it made `more` present itself: rounds may work

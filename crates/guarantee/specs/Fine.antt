@@ -1,35 +1,21 @@
 -- The invariant of a run: the store is in order, and the groups of its parity in hand are among those that there is room for. Every
 -- faultless offer keeps it, and is a run of the theory.
-use Rattle.std.specs.Prelude.{◌≡◌, refl, ◌≢◌, ◌⊎◌, Bool, true, false, ◌&&◌, ℕ, ◌^◌, ◌<◌, ◌≤◌, length, eqb}
-use Rattle.std.proofs.Common.{sym, ap, ◌∙◌, subst, inl, inr, ⊎_elim, true≢false, arith, eqb-true}
-use mathlib.Core.List.Memᴰ
-use mathlib.Core.List.{List, [], ◌∷◌, Memᴰ}
-use Rattle.answer.specs.First.{first, None}
+use Rattle.std.specs.Prelude.{◌≡◌, ◌≢◌, ◌⊎◌, true, ℕ, ◌^◌, ◌<◌}
+use mathlib.Core.List.{List, Memᴰ}
+use Rattle.answer.specs.First.{None}
 use Rattle.answer.specs.Number.{number_of, spoilt_of}
-use Rattle.sequence.specs.Lists.{up_to, any}
-use Rattle.sequence.proofs.Lists.{any_false}
-use Rattle.sequence.proofs.Lists.{and_split as both}
-use Rattle.rtp.specs.Rtp.{sequence_number}
-use Rattle.rtp.specs.Fec.{snbase}
-use Rattle.rtp.specs.Faults.{media_tests, parity_tests}
 use Rattle.window.specs.declared.Window.{Window}
-use Rattle.window.specs.Limits.{width, rows, parity_room, set_up_tests}
-use Rattle.window.specs.Store.{Store, record_at}
-use Rattle.window.specs.Group.{position, group, inside, is_missing}
+use Rattle.window.specs.Limits.{width, rows, set_up_tests}
+use Rattle.window.specs.Store.{Store}
 use Rattle.window.specs.Order.{is_in_use}
-use Rattle.calls.specs.Content.{Recovery, recovery_at}
+use Rattle.calls.specs.Content.{Recovery}
 use Rattle.calls.specs.State.{recount}
-use Rattle.calls.specs.Call.{Outcome, holds, contradicts, parity_offer_tests, offered_media, offered_parity}
-use Rattle.calls.proofs.Passed.{media-passed, parity-passed, media-passes, parity-passes}
-use Rattle.peel.specs.Peel.{Offer, check, Full, Here, Runs, done, took, Spoiling}
-use Rattle.peel.proofs.Peel.{pass, sound-has, sound-runs}
-use Rattle.guarantee.specs.Ranges.{Out}
+use Rattle.calls.specs.Call.{Outcome}
+use Rattle.peel.specs.Peel.{Offer, Runs, Spoiling}
 use Rattle.guarantee.specs.Packets.{Packet}
-use Rattle.guarantee.specs.View.{code, check_at, Held, view}
-use Rattle.guarantee.specs.Order.{Ordered, stands}
-use Rattle.guarantee.specs.Accepted.{Settled}
+use Rattle.guarantee.specs.View.{code, check_at, view}
+use Rattle.guarantee.specs.Order.{Ordered}
 use Rattle.guarantee.specs.Lying.{Lying}
-use Rattle.guarantee.specs.Offers.{media_seen, parity_seen}
 
 -- a window value that refusals 1 to 3 let pass
 pub record Opened (w : Window) : Type 0 where

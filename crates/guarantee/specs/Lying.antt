@@ -1,28 +1,14 @@
 -- A parity packet that contradicts its group (02, request 6): what an answer 18 says, and a run of the theory that meets such a check.
-use Rattle.std.specs.Prelude.{◌≡◌, refl, ◌≢◌, Bool, true, false, not, cond, ◌&&◌, ℕ, T, eqb, leb, ltb, length}
-use Rattle.std.proofs.Common.{sym, ap₂, ◌∙◌, ⊎_elim, arith, eq-eqb, eqb-true}
-use mathlib.Core.List.Memᴰ
-use mathlib.Core.List.{List, [], ◌∷◌, ◌++◌, Memᴰ}
-use Rattle.std.proofs.lemmas.Bool.{not-true, not-false}
-use Rattle.answer.specs.First.{first, None, first-end}
-use Rattle.answer.specs.Number.{number_of}
-use Rattle.xor.specs.Same.{same, same_self, same-eq}
-use Rattle.sequence.specs.Lists.{up_to, any}
-use Rattle.sequence.proofs.Lists.{and_split as both}
-use Rattle.rtp.specs.Fec.{snbase}
-use Rattle.rtp.specs.Faults.{parity_tests}
+use Rattle.std.specs.Prelude.{◌≡◌, Bool, false, not, ℕ, T, eqb}
+use mathlib.Core.List.{List, [], ◌∷◌, Memᴰ}
+use Rattle.sequence.specs.Lists.{any}
 use Rattle.window.specs.declared.Window.{Window}
-use Rattle.window.specs.Limits.{least_missing, rows, parity_room}
 use Rattle.window.specs.Store.{Store}
-use Rattle.window.specs.Group.{group, inside, is_missing, missing}
-use Rattle.calls.specs.Content.{Recovery, same_content, same_recovery, recovery_over}
-use Rattle.calls.specs.Accept.{recovery_of, accept_media, accept_parity}
-use Rattle.calls.specs.Call.{standing_tests, media_offer_tests, holds, holds_same, contradicts, parity_place_tests, parity_offer_tests, refused, settled, begun, offered_media, offered_parity}
-use Rattle.peel.specs.Peel.{Offer, check, Runs, done}
-use Rattle.peel.proofs.Peel.{runs_then}
+use Rattle.window.specs.Group.{is_missing}
+use Rattle.calls.specs.Content.{Recovery, same_recovery, recovery_over}
+use Rattle.peel.specs.Peel.{Offer, check, Runs}
 use Rattle.guarantee.specs.Packets.{Packet}
 use Rattle.guarantee.specs.View.{group_of, code, view}
-use Rattle.guarantee.specs.Offers.{parity_seen}
 
 -- ---- what an answer 18 says
 -- each test has another number than k

@@ -1,22 +1,19 @@
 -- What refusals 1 to 5 let pass, as facts, and back: a store in order (window's InOrder.antt) is one that satisfies View.antt's Good and Missing least_missing.
-use Rattle.std.specs.Prelude.{◌≡◌, refl, Bool, true, false, ◌||◌, [], ◌∷◌, ℕ, ◌*◌, ◌^◌, ◌<◌, length, eqb, ltb}
+use Rattle.std.specs.Prelude.{◌≡◌, refl, Bool, true, false, ℕ, ◌*◌, ◌<◌, length, eqb}
 use Rattle.std.proofs.Common.{sym, ap, ◌∙◌, true≢false, arith, eqb-true, eq-eqb, le-ltb}
 use Rattle.std.proofs.Math.Decide.{ℕ_discrete, dec_lt}
-use Rattle.answer.specs.First.{first, None, first-append, first-end, first-none, first-front}
+use Rattle.answer.specs.First.{None}
 use Rattle.sequence.proofs.Lists.{and_split as both}
 use Rattle.window.specs.declared.Window.{Window}
-use Rattle.window.specs.Limits.{width, least_missing, rows, set_up_tests}
-use Rattle.window.specs.Bounds.{SetUp, Sized, set_up_good}
+use Rattle.window.specs.Limits.{least_missing, rows, set_up_tests}
+use Rattle.window.specs.Bounds.{Sized}
 use Rattle.window.specs.InOrder.{InOrder, order_in}
 use Rattle.window.specs.Store.{Store, short_store, record_at}
 use Rattle.window.specs.Order.{is_in_use, same_group, disorder}
 use Rattle.calls.specs.State.{recount}
 use Rattle.calls.specs.Call.{standing_tests}
 use Rattle.calls.specs.Standing.{Standing}
-use Rattle.calls.proofs.Standing.{standing-good}
-use Rattle.guarantee.specs.View.{Limits, check_at, Good, Missing}
-use Rattle.guarantee.specs.Demand3.{Stretch}
-use Rattle.guarantee.specs.Start.{Start}
+use Rattle.guarantee.specs.View.{check_at, Good, Missing}
 
 -- where every part is long enough, refusal 4 does not apply
 not_short : (w : Window) (s : Store) → Sized w s → short_store w s ≡ false

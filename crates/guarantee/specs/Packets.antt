@@ -1,12 +1,7 @@
 -- A packet as the theory sees it: the cells of its content one after the other, zero past the end.
-use Rattle.std.specs.Prelude.{◌≡◌, refl, List, [], ◌∷◌, ℕ, zero, suc, length, get_or, replicate}
-use Rattle.std.proofs.Common.{sym, ap, ◌∙◌, arith, ext_get_or}
-use Rattle.std.proofs.Math.Path.{fun_ext}
-use Rattle.std.proofs.lemmas.List.{length-replicate}
+use Rattle.std.specs.Prelude.{◌≡◌, List, [], ◌∷◌, ℕ, zero, suc, length, get_or}
 use Rattle.std.specs.Int.Bits.{bit_xor}
-use Rattle.xor.specs.Xor.{zip_xor, length-zip}
-use Rattle.peel.specs.Group.{total}
-use Rattle.calls.specs.Content.{Content, xor_content, xor_contents}
+use Rattle.calls.specs.Content.{Content}
 
 -- the cells of a content: its timestamp and its length, then its payload byte by byte
 abbrev pub cells : Content → List ℕ

@@ -1,31 +1,17 @@
 -- Releasing the parity in hand that has a member behind the new base (calls' Move.antt): each record that has one is set to zero, and the others
 -- are as they were.
-use Rattle.std.specs.Prelude.{◌≡◌, refl, ◌≢◌, ◌⊎◌, Bool, true, false, cond, ◌&&◌, List, ℕ, zero, suc, ◌*◌, ◌-◌, ◌<◌, ◌≤◌, ltb, take, drop, replicate}
-use Rattle.std.proofs.Common.{sym, ap, ◌∙◌, inl, inr, true≢false, arith}
-use Rattle.std.proofs.Math.Decide.{ℕ_discrete}
-use Rattle.std.proofs.lemmas.List.{length-replicate}
-use Rattle.xor.specs.Xor.{padded}
-use Rattle.xor.specs.Parts.{part_front, part_rest}
-use Rattle.sequence.specs.Lists.{any}
-use Rattle.sequence.proofs.Lists.{and_split as both}
+use Rattle.std.specs.Prelude.{◌≡◌, true, List, ℕ, ◌<◌, ◌≤◌, replicate}
 use Rattle.window.specs.declared.Record.{Record}
 use Rattle.window.specs.declared.Window.{Window}
 use Rattle.window.specs.Record.{blank}
 use Rattle.window.specs.Limits.{rows}
-use Rattle.window.specs.Store.{Store, payload_in, record_at, parity_at}
-use Rattle.window.specs.Group.{group}
-use Rattle.window.specs.Order.{used_by, is_in_use, group_at}
-use Rattle.calls.specs.Content.{recovery_at}
-use Rattle.calls.specs.State.{State, release, release_if, release_below}
+use Rattle.window.specs.Store.{Store, record_at}
+use Rattle.calls.specs.State.{State}
 use Rattle.calls.specs.Call.{begun}
 use Rattle.calls.specs.Move.{behind}
-use Rattle.xor.specs.Parts.{part_fits}
-use Rattle.guarantee.specs.View.{Good, Missing}
-use Rattle.guarantee.specs.Moves.{freed}
+use Rattle.guarantee.specs.View.{Good}
 use Rattle.guarantee.specs.Rounds.{at}
-use Rattle.guarantee.specs.Demand3.{Stretch, recovery_sent}
-use Rattle.guarantee.specs.Start.{Holds}
-use Rattle.guarantee.specs.Moving.{cell_at, bytes_at}
+use Rattle.guarantee.specs.Moving.{bytes_at}
 
 -- a record of a store, with its bytes
 pub record Row (w : Window) (s : Store) (r : ℕ) (v : Record) (bytes : List ℕ) : Type 0 where

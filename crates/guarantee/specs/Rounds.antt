@@ -1,28 +1,15 @@
 -- Rounds (calls' Settle.antt) as an engine of the theory: each is a number of steps, and enough of them bring the receiver to rest.
-use Rattle.std.specs.Prelude.{◌≡◌, refl, ◌≢◌, ◌⊎◌, Bool, false, cond, ◌&&◌, ℕ, zero, suc, ◌+◌, ◌-◌, ◌<◌, ◌≤◌, length, eqb, ltb}
-use Rattle.std.proofs.Common.{sym, ap, ◌∙◌, ⊎_elim, true≢false, arith, eqb-true, eq-eqb}
-use Rattle.std.proofs.Math.Path.{subst}
-use Rattle.std.proofs.Math.Logic.{inl, inr}
+use Rattle.std.specs.Prelude.{◌≡◌, ◌⊎◌, ℕ, suc, ◌+◌, ◌<◌, ◌≤◌, length}
 use Rattle.std.proofs.Math.Bool.{true}
-use Rattle.std.proofs.Math.Option.{Option, none, some}
-use Rattle.std.proofs.Math.Decide.{ℕ_discrete}
-use Rattle.std.proofs.lemmas.Bool.{eqb-false}
-use Rattle.sequence.specs.Lists.{head_or}
-use Rattle.sequence.proofs.Lists.{and_split as both}
-use Rattle.rtp.specs.Length.{good_length}
 use Rattle.window.specs.declared.Window.{Window}
-use Rattle.window.specs.Limits.{rows}
 use Rattle.window.specs.Store.{Store}
-use Rattle.window.specs.Order.{is_in_use, group_at, missing_at}
-use Rattle.calls.specs.Content.{Recovery, recovery_at}
-use Rattle.calls.specs.State.{State, scene, recount, rebuild, count_spoilt, release, release_if, release_below}
-use Rattle.calls.specs.Settle.{ready, rank, better, next_below, next, spent as idle, release_all, fits_at, rebuild_by, round_by, round}
-use Rattle.peel.specs.Group.{count_none}
-use Rattle.peel.specs.Peel.{gone, miss, Spoilt, Steps, stop, go_on}
-use Rattle.peel.specs.Rest.{Still, Engine}
-use Rattle.peel.proofs.Rest.{steps_then}
-use Rattle.guarantee.specs.View.{code, check_at, Held, view, Good, Missing}
-use Rattle.guarantee.specs.Moves.{Solved, rebuilt_in, freed}
+use Rattle.window.specs.Order.{is_in_use, missing_at}
+use Rattle.calls.specs.Content.{Recovery}
+use Rattle.calls.specs.State.{State, scene, recount}
+use Rattle.calls.specs.Settle.{ready}
+use Rattle.peel.specs.Peel.{Spoilt, Steps}
+use Rattle.peel.specs.Rest.{Still}
+use Rattle.guarantee.specs.View.{code, view, Good, Missing}
 
 -- a state whose window value has a given window's set-up numbers
 abbrev pub at : Window → (a u : ℕ) → Store → (rebuilt spoilt : ℕ) → State

@@ -1,21 +1,12 @@
 -- Spoilt parity (02, request 1), computed through the calls on the window of Night.antt: a column whose length recovery or payload is not
 -- what the Code defines. What it gives for its one missing packet does not fit, so the packet stays missing, the parity is let go, and the
 -- answer counts it.
-use Rattle.std.specs.Prelude.{◌≡◌, refl, List, [], ◌∷◌, map, ℕ, replicate, set}
-use Rattle.answer.specs.declared.Answer.{Answer}
-use Rattle.answer.specs.declared.Answer.TheVariants.{Done}
-use Rattle.answer.specs.First.{first}
-use Rattle.peel.specs.Rest.{rounds}
+use Rattle.std.specs.Prelude.{List, [], ◌∷◌, ℕ}
 use Rattle.rtp.specs.Fec.{column}
 use Rattle.window.specs.Group.{group}
-use Rattle.window.specs.Order.{disorder}
 use Rattle.calls.specs.Content.{Recovery}
-use Rattle.calls.specs.Datagram.{parity_packet}
-use Rattle.calls.specs.State.{rebuild}
-use Rattle.calls.specs.Settle.{next, release_all, round, settle}
-use Rattle.calls.specs.Call.{opened, offered_media, offered_parity}
-use Rattle.guarantee.specs.Demand3.{columnPort, Offer, run, answers, recovery_sent, mark_at}
-use Rattle.guarantee.specs.Night.{window, lent, ts_packet, stretch, outer, media}
+use Rattle.guarantee.specs.Demand3.{recovery_sent}
+use Rattle.guarantee.specs.Night.{window, stretch}
 
 -- what the column of positions 0, 4, 8 and 12 carries when it is sent: length recovery 0, and 376 bytes of payload
 abbrev pub honest : Recovery

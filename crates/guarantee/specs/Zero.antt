@@ -1,10 +1,8 @@
 -- The window value of a refused opening (01, "Setting up a window"): every later call refuses it with 1, whatever else it is given.
-use Rattle.std.specs.Prelude.{◌≡◌, refl, List, ℕ}
+use Rattle.std.specs.Prelude.{◌≡◌, List, ℕ}
 use Rattle.answer.specs.declared.Answer.TheVariants.{Refused}
-use Rattle.answer.specs.First.{first}
 use Rattle.window.specs.Store.{Store}
-use Rattle.calls.specs.Datagram.{Outer}
-use Rattle.calls.specs.Call.{Outcome, Written, no_window, offered_media, offered_parity, read_out, wrote_parity}
+use Rattle.calls.specs.Call.{Outcome, Written, no_window}
 
 -- an offer refused with 1: the window value and the store stay
 pub record RefusedOffer (s : Store) (x : Outcome) : Type 0 where

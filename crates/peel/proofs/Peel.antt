@@ -1,10 +1,10 @@
 -- What stays true as a receiver does what it may: laws of runs and of what offers determine, for any code.
-use Rattle.std.specs.Prelude.{◌≡◌, refl, ◌≢◌, ◌⊎◌, Bool, true, false, ℕ}
+use Rattle.std.specs.Prelude.{◌≡◌, refl, ◌⊎◌, Bool, true, false, ℕ}
 use Rattle.std.proofs.Common.{sym, ◌∙◌, ap, inl, inr, ⊎_elim, true≢false}
 use Rattle.std.proofs.Math.Option.{Option, none, some}
 use mathlib.Core.List.{List, [], ◌∷◌, ◌++◌, Memᴰ}
-use Rattle.peel.specs.Group.{total, total_ext, total-out, solve, count, None, count-one}
-use Rattle.peel.specs.Peel.{Code, sum, Offer, media, check, Set, Plus, Within, Covered, View, gone, miss, Has, Keeps, Full, Releases, Here, Take, Rebuild, Spoilt, Step, Steps, stop, go_on, Runs, done, took, made, Spoiling, Known, received, rebuilt, Stopping, Sound, Unaltered, Inv}
+use Rattle.peel.specs.Group.{total_ext, total-out, solve, None, count-one}
+use Rattle.peel.specs.Peel.{Code, sum, Offer, media, check, Set, Plus, Within, Covered, View, gone, miss, Has, Keeps, Releases, Here, Take, Spoilt, Step, Steps, stop, go_on, Runs, done, took, made, Spoiling, Known, received, rebuilt, Stopping, Sound, Unaltered, Inv}
 
 -- a slot that is not empty has a packet
 pub there : {X : Type 0} (q : Option X) → gone q ≡ false → (x : X) × (q ≡ some x)

@@ -1,12 +1,12 @@
 -- Coming to rest: a receiver at rest stays so whatever steps it makes, and any engine that does one thing a round gets there.
-use Rattle.std.specs.Prelude.{◌≡◌, ◌≢◌, ◌⊎◌, Bool, true, false, length}
+use Rattle.std.specs.Prelude.{◌≡◌, ◌⊎◌, Bool, true, false, length}
 use Rattle.std.proofs.Math.Path.{refl, ap, fun_ext}
 use Rattle.std.proofs.Common.{sym, ◌∙◌, arith}
 use Rattle.std.proofs.Math.Logic.{inl, inr, ⊎_elim}
 use mathlib.Core.List.{List, [], ◌∷◌, Memᴰ}
 use Prim.Native.Nat.{ℕ, zero, suc, ◌+◌, ◌≤◌, ◌<◌}
-use Rattle.peel.specs.Group.{count, count-one}
-use Rattle.peel.specs.Peel.{Code, View, gone, miss, Rebuild, Spoilt, Step, Steps, stop, go_on, done, Spoiling}
+use Rattle.peel.specs.Group.{count-one}
+use Rattle.peel.specs.Peel.{Code, View, gone, miss, Rebuild, Step, Steps, stop, go_on, done, Spoiling}
 use Rattle.peel.proofs.Peel.{there, miss-keeps, steps-run, spoiling_then}
 use Rattle.peel.specs.Rest.{Still, rounds, Engine}
 

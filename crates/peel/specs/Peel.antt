@@ -1,12 +1,11 @@
 -- Rebuilding by parity checks: what a receiver is offered, what that determines (Known, Stopping), what a receiver may do
 -- with it (Take, Step, in any order: Runs), and what stays true as it does so (Sound, Inv). No engine and no bytes: K names
 -- the checks, C is what a check carries, X is a packet.
-use Rattle.std.specs.Prelude.{◌≡◌, refl, ◌≢◌, ◌⊎◌, Bool, true, false, ℕ}
-use Rattle.std.proofs.Common.{sym, ◌∙◌, ap, inl, inr, ⊎_elim, true≢false}
+use Rattle.std.specs.Prelude.{◌≡◌, ◌≢◌, ◌⊎◌, Bool, true, false, ℕ}
 use Rattle.std.proofs.Math.Option.{Option, none, some}
 use mathlib.Core.List.{List, [], ◌∷◌, ◌++◌, Memᴰ}
 use Rattle.xor.specs.Laws.{Xor}
-use Rattle.peel.specs.Group.{total, total_ext, total-out, solve, count, None, count-one}
+use Rattle.peel.specs.Group.{total, count, None}
 
 -- ---- codes, offers and receivers
 

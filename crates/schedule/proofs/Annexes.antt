@@ -1,7 +1,6 @@
 -- 004's annexes A and B at L = 4, D = 5, by computation.
-use Rattle.std.specs.Prelude.{◌≡◌, refl, List, [], ◌∷◌, ◌++◌, ℕ, zero, suc, ◌+◌}
-use Rattle.std.proofs.Math.Option.{Option, none, some}
-use Rattle.schedule.specs.Schedule.{Arrangement, Aligned, Staggered, Cycle, shift, start, due, turn, leaving, column_due, row_due}
+use Rattle.std.specs.Prelude.{◌≡◌, refl, [], ◌∷◌, ◌+◌}
+use Rattle.schedule.specs.Schedule.{Aligned, Staggered, shift, start, due, turn, leaving, column_due, row_due}
 use Rattle.schedule.specs.Annexes.{members, sent_with, start_of, sent_below, columns_below}
 
 -- annex A numbers its packets from 1: groups 1, 5, 9, 13, 17 and 6, 10, 14, 18, 22

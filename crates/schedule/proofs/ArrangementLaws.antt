@@ -1,7 +1,6 @@
 -- The two sending arrangements, by the positions at which their groups start (01, "Bytes on the wire"). L columns and D rows are a matrix.
-use Rattle.std.specs.Prelude.{List, map, ℕ, ◌+◌, ◌*◌, ◌%◌, ◌<◌, ◌≤◌}
+use Rattle.std.specs.Prelude.{ℕ, ◌+◌, ◌*◌, ◌%◌, ◌<◌, ◌≤◌}
 use Rattle.std.proofs.Common.{mod-lt, mul-le-mul_left, mul-suc, arith}
-use Rattle.sequence.specs.Lists.{up_to}
 use Rattle.schedule.specs.Arrangement.{staggered_column}
 
 -- every staggered column starts in every matrix, and so once in it

@@ -1,10 +1,9 @@
 -- The numbers of the schedule as the code works them out: what they are, their sizes, and the ways through the code.
 use Rattle.std.specs.Prelude.{◌≡◌, true, false, ℕ, ◌*◌, ◌-◌, ◌/◌, ◌%◌, ◌≤◌, ◌<◌, eqb}
-use Rattle.std.proofs.Math.Option.{Option, none, some}
 use Rattle.std.proofs.Common.{mul-le-mul, div-le_self, arith, eq-eqb, ne_eqb}
 use Rattle.schedule.specs.declared.Leaving.{Leaving}
 use Rattle.schedule.specs.declared.Joining.{Joining}
-use Rattle.schedule.specs.Schedule.{Arrangement, Cycle, shift, start, due, turn, leaving, column_due, taking, slot}
+use Rattle.schedule.specs.Schedule.{Arrangement, shift, start, due, turn, leaving, column_due, taking, slot}
 use Rattle.schedule.specs.Exact.{cyc}
 use Rattle.schedule.proofs.Exact.{shift-lt, turn-lt}
 use Rattle.schedule.specs.Numbers.{Small, leaving_at, joining_at}

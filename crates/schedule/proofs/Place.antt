@@ -7,7 +7,7 @@ use Rattle.std.proofs.Math.Nat.{div-add-mod'}
 use native.Mathlib.Omega.{arith}
 use Rattle.std.proofs.Math.Dec.{eqb}
 use Rattle.std.proofs.lemmas.Bool.{eqb-false}
-use Rattle.schedule.specs.Schedule.{Arrangement, Aligned, Staggered, Cycle, shift, start, due, turn, leaving, column_due, row_due, taking, slot, matrices, onward}
+use Rattle.schedule.specs.Schedule.{Arrangement, Aligned, Staggered, Cycle, shift, start, due, turn, leaving, column_due, row_due, taking, slot, onward}
 use Rattle.schedule.specs.Exact.{cyc}
 use Rattle.schedule.proofs.Exact.{lt-or-le, quotient, remainder, shift-lt}
 use Rattle.schedule.specs.Place.{later, Place}

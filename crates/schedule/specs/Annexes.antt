@@ -1,7 +1,7 @@
 -- 004's annexes A and B at L = 4, D = 5, by computation.
-use Rattle.std.specs.Prelude.{◌≡◌, refl, List, [], ◌∷◌, ◌++◌, ℕ, zero, suc, ◌+◌}
+use Rattle.std.specs.Prelude.{List, [], ◌∷◌, ◌++◌, ℕ, zero, suc, ◌+◌}
 use Rattle.std.proofs.Math.Option.{Option, none, some}
-use Rattle.schedule.specs.Schedule.{Arrangement, Aligned, Staggered, Cycle, shift, start, due, turn, leaving, column_due, row_due}
+use Rattle.schedule.specs.Schedule.{Arrangement, Cycle, start, column_due}
 
 -- n numbers from s on, each t after the one before
 abbrev pub members : (s t n : ℕ) → List ℕ

@@ -1,6 +1,5 @@
 -- The two sending arrangements, by the positions at which their groups start (01, "Bytes on the wire"). L columns and D rows are a matrix.
-use Rattle.std.specs.Prelude.{List, map, ℕ, ◌+◌, ◌*◌, ◌%◌, ◌<◌, ◌≤◌}
-use Rattle.std.proofs.Common.{mod-lt, mul-le-mul_left, mul-suc, arith}
+use Rattle.std.specs.Prelude.{List, map, ℕ, ◌+◌, ◌*◌, ◌%◌}
 use Rattle.sequence.specs.Lists.{up_to}
 
 -- "aligned rows start at the multiples of L": row i

@@ -9,17 +9,16 @@ use Rattle.sequence.specs.Lists.{all}
 use Rattle.rtp.specs.Fec.{parity_header_size}
 use Rattle.rtp.specs.Faults.{media_tests}
 use Rattle.window.specs.Limits.{width}
-use Rattle.calls.specs.Content.{Recovery}
 use Rattle.calls.specs.Call.{zeroed}
 use Rattle.schedule.specs.Schedule.{onward}
 use Rattle.schedule.specs.Numbers.{Small}
 use Rattle.sender.specs.declared.Sender.{Sender}
-use Rattle.sender.specs.Sums.{Room, slots, sum_at, alone, together}
+use Rattle.sender.specs.Sums.{Room, slots, sum_at, together}
 use Rattle.sender.specs.Call.{arrangement_of, next_sender, short_room, short_output, astray, standing_tests, number_tests, offer_tests, open_tests, cleared, fresh, absorbed, set_up_tests}
-use Rattle.sender.specs.Ready.{Ready, Payload, set_up_good, roomy_of, small_of}
+use Rattle.sender.specs.Ready.{Payload, set_up_good, roomy_of, small_of}
 use Rattle.sender.specs.Absorbed.{ready-absorbed}
 use Rattle.sent.specs.Kept.{Kept, kept-start, kept_next}
-use Rattle.sent.specs.Room.{empty, Sized, together-laws, alone-sized}
+use Rattle.sent.specs.Room.{empty, Sized, together-laws}
 use Rattle.sent.proofs.Room.{absorbs}
 use Rattle.sent.specs.Life.{datagram_at}
 use Rattle.sent.specs.Lives.{packets, packets-sized, GoesOn, Lives}

@@ -1,14 +1,7 @@
 -- A sender's room by what its slots hold: an offer joins the packet to the sums of its column and of its row.
-use Rattle.std.specs.Prelude.{◌≡◌, List, ℕ, ◌*◌, ◌%◌, max, eqb, length, drop, replicate}
+use Rattle.std.specs.Prelude.{◌≡◌, List, ℕ, ◌*◌, ◌%◌, eqb, length, drop}
 use Rattle.std.proofs.Common.{sym, ◌∙◌, ap, arith, length-drop, length-take-le, get_or-set_same, get_or-set_other}
-use Rattle.std.proofs.lemmas.Nat.{xor_comm}
-use Rattle.std.specs.Int.Bits.{xor_zero_l}
-use Rattle.std.proofs.lemmas.List.{length-replicate}
-use Rattle.xor.specs.Xor.{zip_xor, length-zip}
-use Rattle.xor.specs.Laws.{zip_comm, zip-zero}
-use Rattle.xor.specs.Padded.{length-padded}
 use Rattle.xor.specs.Parts.{part_front, part_rest}
-use Rattle.rtp.specs.Rtp.{rtp_header_size}
 use Rattle.calls.specs.Content.{Recovery}
 use Rattle.schedule.specs.Schedule.{start, taking, slot, row_slot}
 use Rattle.sender.specs.declared.Sender.{Sender}
@@ -16,7 +9,6 @@ use Rattle.sender.specs.Sums.{Room, sum_at, put_sum, alone, together, joined, jo
 use Rattle.sender.specs.Call.{arrangement_of, absorbed}
 use Rattle.sender.specs.Ready.{Ready, Payload, Slot, slot_of}
 use Rattle.sender.specs.Absorbed.{column-below, column-slot, joined_length, ready-join}
-use Rattle.sent.specs.Sums.{Laws}
 use Rattle.sent.specs.Kept.{Joins}
 use Rattle.sent.specs.Room.{empty, Sized, together-laws}
 

@@ -1,24 +1,13 @@
 -- What holds of a sender from its opening on, offer after offer.
-use Rattle.std.specs.Prelude.{◌≡◌, refl, true, false, ◌||◌, List, [], ◌∷◌, ◌++◌, ℕ, zero, suc, ◌+◌, ◌*◌, ◌%◌, ◌^◌, ◌≤◌, ◌<◌, leb, length, get_or, take, drop, replicate}
-use Rattle.std.proofs.Common.{sym, ◌∙◌, ap, mul-le-mul_left, arith, length-append, length-drop, le-ltb, lt-ltb, le-leb}
-use Rattle.std.proofs.Math.Nat.{mod-add-mod}
-use Rattle.std.proofs.lemmas.List.{length-replicate, get_or-replicate, get_or_at}
-use Rattle.std.proofs.Math.ListN.{get_or-append}
-use Rattle.answer.specs.First.{first, first_past, first-end, first-none, first-front, first_goes}
-use Rattle.sequence.specs.Lists.{all}
-use Rattle.rtp.specs.Fec.{parity_header_size}
-use Rattle.rtp.specs.Faults.{media_tests}
+use Rattle.std.specs.Prelude.{◌≡◌, List, ℕ, ◌%◌, ◌^◌, ◌<◌, length}
+use Rattle.answer.specs.First.{first}
 use Rattle.window.specs.Limits.{width}
 use Rattle.calls.specs.Content.{Recovery}
-use Rattle.calls.specs.Call.{zeroed}
-use Rattle.schedule.specs.Schedule.{onward}
-use Rattle.schedule.specs.Numbers.{Small}
 use Rattle.sender.specs.declared.Sender.{Sender}
-use Rattle.sender.specs.Sums.{Room, slots, sum_at, alone, together}
-use Rattle.sender.specs.Call.{arrangement_of, next_sender, short_room, short_output, astray, standing_tests, number_tests, offer_tests, open_tests, cleared, fresh, absorbed, set_up_tests}
-use Rattle.sender.specs.Ready.{Ready, Payload, set_up_good, roomy_of, small_of}
-use Rattle.sender.specs.Absorbed.{ready-absorbed}
-use Rattle.sent.specs.Kept.{Kept, kept-start, kept_next}
+use Rattle.sender.specs.Sums.{Room, sum_at, alone, together}
+use Rattle.sender.specs.Call.{arrangement_of, set_up_tests}
+use Rattle.sender.specs.Ready.{Ready}
+use Rattle.sent.specs.Kept.{Kept}
 use Rattle.sent.specs.Room.{empty, Sized, together-laws, alone-sized}
 use Rattle.sent.specs.Life.{datagram_at}
 

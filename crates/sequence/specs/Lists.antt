@@ -1,7 +1,5 @@
 -- Lists of positions: ranges, and what a test holds of.
-use Rattle.std.specs.Prelude.{◌≡◌, ℕ, zero, suc, ◌+◌, ◌<◌, ◌≤◌, Bool, true, false, cond, ◌&&◌, ◌||◌, List, [], ◌∷◌, ◌++◌, map, length, nat_lt, refl}
-use Rattle.std.proofs.Common.{sym, ap, ◌∙◌, ⊎_elim, eq-or-lt_of_le, le_of_suc-le-suc, add-one, arith, length-append, lt-ltb}
-use Rattle.std.proofs.Math.Bool.{and_assoc, and-true, or_assoc, or-false}
+use Rattle.std.specs.Prelude.{ℕ, zero, suc, Bool, true, false, cond, ◌&&◌, ◌||◌, List, [], ◌∷◌, ◌++◌, length}
 
 -- the numbers below n, in order
 abbrev pub up_to : ℕ → List ℕ

@@ -1,9 +1,6 @@
 -- Sequence numbers of w bits, which wrap: 16 for RTP.
-use Rattle.std.specs.Prelude.{◌≡◌, ℕ, suc, ◌+◌, ◌-◌, ◌*◌, ◌%◌, ◌^◌, ◌<◌, ◌≤◌, Bool, true, false, ltb, List, map, nat_lt, refl}
-use Rattle.std.proofs.Common.{sym, ap, ◌∙◌, mod-lt, mod-eq_of_lt, mul-le-mul_right, arith, pow_pos, lt-ltb, le-ltb, ltb-true, ltb-false}
-use Rattle.std.proofs.lemmas.Simd.{map-map}
-use Rattle.std.proofs.Math.Nat.{add-mod_right, mod-add-mod, add-mod-mod}
-use Rattle.sequence.specs.Lists.{up_to, all}
+use Rattle.std.specs.Prelude.{ℕ, ◌+◌, ◌-◌, ◌*◌, ◌%◌, ◌^◌, List, map}
+use Rattle.sequence.specs.Lists.{up_to}
 
 -- how far a number lies ahead of a base, counted with wrap: its position in a window that starts at the base (01, "Setting up a window")
 abbrev pub ahead : (w base number : ℕ) → ℕ
