@@ -1,4 +1,6 @@
 -- A file judged byte by byte, in a few numbers: bytes of the header and the entry count so far; in a line of the table, the lines
+-- after it, where its body has to start, the bytes of all bodies before it, how many bytes of it were read and its length so far; bytes of
+-- bodies to come; refused.
 use Rattle.std.specs.Prelude.{◌≡◌, refl, Bool, true, false, cond, List, [], ◌∷◌, ◌++◌, ℕ, zero, suc, ◌+◌, ◌*◌, ◌-◌, ◌≤◌, ◌<◌, leb, length, get_or, drop}
 use Rattle.std.proofs.Common.{sym, ap, ◌∙◌, arith, le-leb, leb-true, leb-false, eq-eqb, ne_eqb, length-drop, drop_of_length-le, drop-cons, add-one}
 use Rattle.std.proofs.lemmas.Bool.{lt-leb}

@@ -224,9 +224,9 @@ fn one_round(
     rows: &mut [u32],
     m: usize,
 ) -> Round
-    requires { Serves w (record { media = media.now; timestamps = timestamps.old; lengths = lengths.old; marks = marks.old; parity = parity.old; rows = hand rows.old }) × (length (hand rows.old) ≡ m) × (w.present < most_counted) }
-    ensures { Rounded w (record { media = media.entry.now; timestamps = timestamps.old; lengths = lengths.old; marks = marks.old; parity = parity.old; rows = hand rows.old }) result
-        (record { media = media.exit.now; timestamps = timestamps.new; lengths = lengths.new; marks = marks.new; parity = parity.new; rows = hand rows.new }) }
+    requires { Serves w (record { media = media.old; timestamps = timestamps.old; lengths = lengths.old; marks = marks.old; parity = parity.old; rows = hand rows.old }) × (length (hand rows.old) ≡ m) × (w.present < most_counted) }
+    ensures { Rounded w (record { media = media.old; timestamps = timestamps.old; lengths = lengths.old; marks = marks.old; parity = parity.old; rows = hand rows.old }) result
+        (record { media = media.new; timestamps = timestamps.new; lengths = lengths.new; marks = marks.new; parity = parity.new; rows = hand rows.new }) }
 {
     let r = next_ready(w, rows, m);
     if m <= r {
@@ -284,9 +284,9 @@ pub fn settle(
     rows: &mut [u32],
     m: usize,
 ) -> Round
-    requires { Serves w (record { media = media.now; timestamps = timestamps.old; lengths = lengths.old; marks = marks.old; parity = parity.old; rows = hand rows.old }) × (length (hand rows.old) ≡ m) × (w.present + w.in_use ≤ most_counted) }
-    ensures { Settled w (record { media = media.entry.now; timestamps = timestamps.old; lengths = lengths.old; marks = marks.old; parity = parity.old; rows = hand rows.old }) result
-        (record { media = media.exit.now; timestamps = timestamps.new; lengths = lengths.new; marks = marks.new; parity = parity.new; rows = hand rows.new }) }
+    requires { Serves w (record { media = media.old; timestamps = timestamps.old; lengths = lengths.old; marks = marks.old; parity = parity.old; rows = hand rows.old }) × (length (hand rows.old) ≡ m) × (w.present + w.in_use ≤ most_counted) }
+    ensures { Settled w (record { media = media.old; timestamps = timestamps.old; lengths = lengths.old; marks = marks.old; parity = parity.old; rows = hand rows.old }) result
+        (record { media = media.new; timestamps = timestamps.new; lengths = lengths.new; marks = marks.new; parity = parity.new; rows = hand rows.new }) }
 {
     let mut v = w;
     let mut rebuilt = 0;

@@ -1,4 +1,5 @@
 -- What refusal 18 buys (02, request 6): a parity packet that finds its whole group present and is accepted is the one that the group defines,
+-- byte for byte; and the one that the window writes of a whole group never contradicts it.
 use Rattle.std.specs.Prelude.{◌≡◌, refl, ◌≢◌, true, false, not, ◌||◌, ℕ, zero, suc, ◌+◌, ◌*◌, ◌/◌, ◌%◌, ◌^◌, ◌<◌, ◌≤◌, length, get_or, take, drop, eqb}
 use Rattle.std.proofs.Common.{sym, ap, ap₂, ◌∙◌, true≢false, div-add-mod', arith, length-take, eqb-true, eq-eqb, ltb-false}
 use mathlib.Core.List.{List, [], ◌∷◌, ◌++◌, Memᴰ}

@@ -1,4 +1,5 @@
 -- The customer's night goes on: a column waits for two packets while the window moves by one, rebuilds the last of its group when the other
+-- comes, and all of it is written out when the window moves by n. Through the calls, as Night.antt.
 use Rattle.std.specs.Prelude.{◌≡◌, refl, [], ◌∷◌, ◌%◌}
 use Rattle.std.proofs.Common.{inl, inr, mod-lt, arith}
 use Rattle.answer.specs.First.{first}

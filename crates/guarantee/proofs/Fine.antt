@@ -1,4 +1,5 @@
 -- The invariant of a run: the store is in order, and the groups of its parity in hand are among those that there is room for. Every
+-- faultless offer keeps it, and is a run of the theory.
 use Rattle.std.specs.Prelude.{◌≡◌, refl, ◌≢◌, ◌⊎◌, Bool, true, false, ◌&&◌, ℕ, ◌<◌, ◌≤◌, length, eqb}
 use Rattle.std.proofs.Common.{sym, ap, ◌∙◌, subst, inl, inr, ⊎_elim, true≢false, arith, eqb-true}
 use mathlib.Core.List.Memᴰ

@@ -1,4 +1,5 @@
 -- The claims of Moving.antt, proved: a move that was carried out is a release of the parity behind (Released.antt) and a shift of the positions
+-- (Onward.antt), and what it wrote is read back (Slots.antt).
 use Rattle.std.specs.Prelude.{◌≡◌, ◌⊎◌, Bool, true, false, List, [], ℕ, ◌+◌, ◌-◌, ◌<◌, ◌≤◌, eqb, ltb, replicate}
 use Rattle.std.proofs.Math.Path.{refl, ap, subst}
 use Rattle.std.proofs.Common.{sym, ◌∙◌, inl, inr, ⊎_elim, arith, pow_pos, eqb-true, ltb-false}

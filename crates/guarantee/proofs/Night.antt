@@ -1,4 +1,5 @@
 -- The customer's night, as an instance of demand 3 and through the calls: a column that runs across the wrap of the sequence counter
+-- rebuilds the packet that is missing, byte for byte and at its own length, with repeats refused on the way.
 use Rattle.std.specs.Prelude.{◌≡◌, refl, Bool, true, false, cond, ℕ, zero, suc, ◌+◌, ◌%◌, ◌<◌, eqb, length, replicate}
 use Rattle.std.proofs.Common.{⊎_elim, arith}
 use mathlib.Core.List.Memᴰ

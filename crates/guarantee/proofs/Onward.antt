@@ -1,4 +1,5 @@
 -- A store whose positions moved down, under a window value whose base moved on, where no parity in hand has a member behind the new base: it is
+-- in order, and what it holds is unaltered for the stretch moved on.
 use Rattle.std.specs.Prelude.{◌≡◌, refl, true, false, not, ℕ, zero, suc, ◌+◌, ◌*◌, ◌-◌, ◌<◌, ◌≤◌, eqb, ltb, length, get_or, take, drop}
 use Rattle.std.proofs.Common.{sym, ap, ◌∙◌, mul-le-mul_right, add-mul, arith, ltb-true, lt-ltb, eqb-true}
 use mathlib.Core.List.{List, map, map-map, Memᴰ}

@@ -1,4 +1,5 @@
 -- What is said of a window value speaks of its set-up numbers alone: it holds with any other counts. As `recount (recount w a u)` with
+-- w's own counts is w, each of these goes both ways.
 use Rattle.std.specs.Prelude.{List, ℕ}
 use Rattle.window.specs.declared.Window.{Window}
 use Rattle.window.specs.Store.{Store}

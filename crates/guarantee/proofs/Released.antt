@@ -1,4 +1,5 @@
 -- Releasing the parity in hand that has a member behind the new base (calls' Move.antt): each record that has one is set to zero, and the others
+-- are as they were.
 use Rattle.std.specs.Prelude.{◌≡◌, refl, ◌≢◌, ◌⊎◌, Bool, true, false, cond, ◌&&◌, List, ℕ, zero, suc, ◌*◌, ◌-◌, ◌<◌, ◌≤◌, ltb, take, drop, replicate}
 use Rattle.std.proofs.Common.{sym, ap, ◌∙◌, inl, inr, true≢false, arith}
 use Rattle.std.proofs.Math.Decide.{ℕ_discrete}

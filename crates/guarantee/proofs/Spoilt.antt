@@ -1,4 +1,6 @@
 -- Spoilt parity (02, request 1), computed through the calls on the window of Night.antt: a column whose length recovery or payload is not
+-- what the Code defines. What it gives for its one missing packet does not fit, so the packet stays missing, the parity is let go, and the
+-- answer counts it.
 use Rattle.std.specs.Prelude.{◌≡◌, refl, List, [], ◌∷◌, map, ℕ, replicate, set}
 use Rattle.answer.specs.declared.Answer.{Answer}
 use Rattle.answer.specs.declared.Answer.TheVariants.{Done}

@@ -1,4 +1,5 @@
 -- Demand 3 from any start (Start.antt) and from an opening (Demand3.antt), proved: a list is a run of the theory that keeps the invariant
+-- of Fine.antt, and the theory's theorems give the conclusions.
 use Rattle.std.specs.Prelude.{◌≡◌, refl, ◌≢◌, ◌⊎◌, Bool, true, false, ◌&&◌, ℕ, ◌<◌, ◌≤◌, length, take, ltb}
 use Rattle.std.proofs.Common.{sym, ap, ◌∙◌, subst, inl, inr, ⊎_elim, true≢false, arith, eqb-true, lt-ltb, ltb-true}
 use mathlib.Core.List.{List, [], ◌∷◌, ◌++◌, map, Memᴰ}

@@ -1,4 +1,6 @@
 -- What every accepted offer leaves, unaltered or not (01, "Taking a packet in"; 00, demand 2): a store in order, in which every parity
+-- packet in hand covers at least two missing packets (least_missing); and a count that is the rise in packets present, less the media packet
+-- itself, whatever was found spoilt.
 use Rattle.std.specs.Prelude.{◌≡◌, refl, true, false, List, ℕ, ◌+◌, ◌^◌, ◌<◌, ◌≤◌, length}
 use Rattle.std.proofs.Common.{sym, ap, ◌∙◌, arith}
 use Rattle.answer.specs.declared.Answer.TheVariants.{Done}

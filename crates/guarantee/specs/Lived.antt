@@ -1,4 +1,4 @@
--- The claims of Life.antt, proved: every fair event keeps a window over its feed.
+-- What one event of a life is given and leaves (Life.antt): a window over its feed is kept.
 use Rattle.window.specs.declared.Window.{Window}
 use Rattle.calls.specs.Call.{Outcome}
 use Rattle.guarantee.specs.Demand3.{Stretch}

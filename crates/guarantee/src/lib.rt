@@ -1,3 +1,3 @@
 #![tactic(auto)]
 
-// Theorems about the definitions that the calls are proved against: specs/ has all of it, and there is no code.
+// Theorems about the definitions that the calls are proved against: specs/ has what they say, proofs/ proves them, and there is no code.

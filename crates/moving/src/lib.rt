@@ -305,8 +305,8 @@ pub fn advance(
     sizes: &mut [u16],
 ) -> Moved
     requires { length (hand rows.old) ≡ m }
-    ensures { Advance w by len (record { media = media.entry.now; timestamps = timestamps.old; lengths = lengths.old; marks = marks.old; parity = parity.old; rows = hand rows.old }) out.old sizes.old result
-        (record { media = media.exit.now; timestamps = timestamps.new; lengths = lengths.new; marks = marks.new; parity = parity.new; rows = hand rows.new }) out.new sizes.new }
+    ensures { Advance w by len (record { media = media.old; timestamps = timestamps.old; lengths = lengths.old; marks = marks.old; parity = parity.old; rows = hand rows.old }) out.old sizes.old result
+        (record { media = media.new; timestamps = timestamps.new; lengths = lengths.new; marks = marks.new; parity = parity.new; rows = hand rows.new }) out.new sizes.new }
 {
     let z = Sizes {
         media: media.len(),

@@ -81,7 +81,7 @@ fn standing(
     len: usize,
 ) -> u8
     requires { length (hand rows.old) ≡ m }
-    ensures { Stood w (record { media = length media.entry.now; timestamps = length timestamps.now; lengths = length lengths.now; marks = length marks.now; parity = length parity.now; records = len }) false lengths.now marks.now (hand rows.old) (hand rows.new) result }
+    ensures { Stood w (record { media = length media.now; timestamps = length timestamps.now; lengths = length lengths.now; marks = length marks.now; parity = length parity.now; records = len }) false lengths.now marks.now (hand rows.old) (hand rows.new) result }
 {
     let z = Sizes {
         media: media.len(),
@@ -107,9 +107,9 @@ fn go_on(
     rows: &mut [u32],
     m: usize,
 ) -> Offered
-    requires { Serves v (record { media = media.now; timestamps = timestamps.old; lengths = lengths.old; marks = marks.old; parity = parity.old; rows = hand rows.old }) × (length (hand rows.old) ≡ m) × (v.present + v.in_use ≤ most_counted) × (rebuilt ≤ 1) × (spoilt ≤ 1) }
-    ensures { Went v (record { media = media.entry.now; timestamps = timestamps.old; lengths = lengths.old; marks = marks.old; parity = parity.old; rows = hand rows.old }) rebuilt spoilt result
-        (record { media = media.exit.now; timestamps = timestamps.new; lengths = lengths.new; marks = marks.new; parity = parity.new; rows = hand rows.new }) }
+    requires { Serves v (record { media = media.old; timestamps = timestamps.old; lengths = lengths.old; marks = marks.old; parity = parity.old; rows = hand rows.old }) × (length (hand rows.old) ≡ m) × (v.present + v.in_use ≤ most_counted) × (rebuilt ≤ 1) × (spoilt ≤ 1) }
+    ensures { Went v (record { media = media.old; timestamps = timestamps.old; lengths = lengths.old; marks = marks.old; parity = parity.old; rows = hand rows.old }) rebuilt spoilt result
+        (record { media = media.new; timestamps = timestamps.new; lengths = lengths.new; marks = marks.new; parity = parity.new; rows = hand rows.new }) }
 {
     let r = engine::settle(v, media, timestamps, lengths, marks, parity, rows, m);
     let window = r.window;
@@ -169,10 +169,10 @@ fn accept_media(
     rows: &mut [u32],
     m: usize,
 ) -> Offered
-    requires { Serves w (record { media = media.now; timestamps = timestamps.old; lengths = lengths.old; marks = marks.old; parity = parity.old; rows = hand rows.old }) × (length (hand rows.old) ≡ m) × Fitting rtp_header_size w.p datagram.now
+    requires { Serves w (record { media = media.old; timestamps = timestamps.old; lengths = lengths.old; marks = marks.old; parity = parity.old; rows = hand rows.old }) × (length (hand rows.old) ≡ m) × Fitting rtp_header_size w.p datagram.now
         × (position w (sequence_number datagram.now) < w.n) × (get_or marks.old (position w (sequence_number datagram.now)) 0 ≡ 0) × (w.present ≤ w.n) × (w.in_use ≤ most_records) }
-    ensures { Accepted (λ s. accept_media datagram.now (begun w s)) w.k (record { media = media.entry.now; timestamps = timestamps.old; lengths = lengths.old; marks = marks.old; parity = parity.old; rows = hand rows.old }) result
-        (record { media = media.exit.now; timestamps = timestamps.new; lengths = lengths.new; marks = marks.new; parity = parity.new; rows = hand rows.new }) × (result.held ≡ false) }
+    ensures { Accepted (λ s. accept_media datagram.now (begun w s)) w.k (record { media = media.old; timestamps = timestamps.old; lengths = lengths.old; marks = marks.old; parity = parity.old; rows = hand rows.old }) result
+        (record { media = media.new; timestamps = timestamps.new; lengths = lengths.new; marks = marks.new; parity = parity.new; rows = hand rows.new }) × (result.held ≡ false) }
 {
     let i = sequence::position(w.base, rtp::sequence_number(datagram)) as usize;
     let p = w.p;
@@ -355,10 +355,10 @@ fn accept_last(
     rows: &mut [u32],
     m: usize,
 ) -> Offered
-    requires { Serves w (record { media = media.now; timestamps = timestamps.old; lengths = lengths.old; marks = marks.old; parity = parity.old; rows = hand rows.old }) × (length (hand rows.old) ≡ m) × Fitting parity_header_size w.p datagram.now
+    requires { Serves w (record { media = media.old; timestamps = timestamps.old; lengths = lengths.old; marks = marks.old; parity = parity.old; rows = hand rows.old }) × (length (hand rows.old) ≡ m) × Fitting parity_header_size w.p datagram.now
         × Inside w stream (fec.snbase datagram.now) × (missing marks.old (group w stream (fec.snbase datagram.now)) ≡ i ∷ []) × (w.present ≤ w.n) × (w.in_use ≤ most_records) }
-    ensures { Accepted (λ s. accept_parity stream datagram.now (begun w s)) w.k (record { media = media.entry.now; timestamps = timestamps.old; lengths = lengths.old; marks = marks.old; parity = parity.old; rows = hand rows.old }) result
-        (record { media = media.exit.now; timestamps = timestamps.new; lengths = lengths.new; marks = marks.new; parity = parity.new; rows = hand rows.new }) }
+    ensures { Accepted (λ s. accept_parity stream datagram.now (begun w s)) w.k (record { media = media.old; timestamps = timestamps.old; lengths = lengths.old; marks = marks.old; parity = parity.old; rows = hand rows.old }) result
+        (record { media = media.new; timestamps = timestamps.new; lengths = lengths.new; marks = marks.new; parity = parity.new; rows = hand rows.new }) }
 {
     let snbase = rtp::snbase(datagram);
     let recovery = rtp::timestamp_recovery(datagram);
@@ -434,8 +434,8 @@ pub fn offer_media(
     len: usize,
 ) -> Offered
     requires { (length (hand rows.old) ≡ m) × (m ≤ most_records) }
-    ensures { Offer (offered_media w datagram.now) w.k len (record { media = media.entry.now; timestamps = timestamps.old; lengths = lengths.old; marks = marks.old; parity = parity.old; rows = hand rows.old }) result
-        (record { media = media.exit.now; timestamps = timestamps.new; lengths = lengths.new; marks = marks.new; parity = parity.new; rows = hand rows.new }) × (result.held ≡ false) }
+    ensures { Offer (offered_media w datagram.now) w.k len (record { media = media.old; timestamps = timestamps.old; lengths = lengths.old; marks = marks.old; parity = parity.old; rows = hand rows.old }) result
+        (record { media = media.new; timestamps = timestamps.new; lengths = lengths.new; marks = marks.new; parity = parity.new; rows = hand rows.new }) × (result.held ≡ false) }
 {
     let fault = standing(w, media, timestamps, lengths, marks, parity, rows, m, len);
     if fault != 0 {
@@ -469,8 +469,8 @@ pub fn offer_parity(
     len: usize,
 ) -> Offered
     requires { (length (hand rows.old) ≡ m) × (m ≤ most_records) }
-    ensures { Offer (offered_parity stream w datagram.now) w.k len (record { media = media.entry.now; timestamps = timestamps.old; lengths = lengths.old; marks = marks.old; parity = parity.old; rows = hand rows.old }) result
-        (record { media = media.exit.now; timestamps = timestamps.new; lengths = lengths.new; marks = marks.new; parity = parity.new; rows = hand rows.new }) }
+    ensures { Offer (offered_parity stream w datagram.now) w.k len (record { media = media.old; timestamps = timestamps.old; lengths = lengths.old; marks = marks.old; parity = parity.old; rows = hand rows.old }) result
+        (record { media = media.new; timestamps = timestamps.new; lengths = lengths.new; marks = marks.new; parity = parity.new; rows = hand rows.new }) }
 {
     let fault = standing(w, media, timestamps, lengths, marks, parity, rows, m, len);
     if fault != 0 {

@@ -1,4 +1,6 @@
 -- What every receiver shares that did only what specs/Peel.antt allows and has come to rest, whatever its engine:
+-- what it has was sent (right), what it lacks no engine could rebuild (missing_iff), and neither the order of the offers nor
+-- the engine matters (same, engines_agree).
 use Rattle.std.specs.Prelude.{◌≡◌, refl, ◌↔◌, ◌≢◌, ◌⊎◌, Bool, true, false, List, [], ℕ}
 use Rattle.std.proofs.Common.{sym, ◌∙◌, ap, inl, inr, ⊎_elim, true≢false, arith}
 use Rattle.std.proofs.Math.Option.{Option, none, some}

@@ -25,6 +25,9 @@ small h w fault e f z =
       p-high = subst (λ (m : ℕ). m ≤ 1428) (ap (λ (v : Window). v.p) e) g.p-high;
     }
 
+pub small_media : (h : Header) → Small h → h.n * h.p ≤ 571200
+small_media h s = mul-le-mul {n₁ = h.n} {n₂ = 400} {m₂ = 1428} s.n-high s.p-high
+
 pub small_product : (h : Header) → Small h → (h.n + h.k) * h.p ≤ 753984
 small_product h s = mul-le-mul {n₁ = h.n + h.k} {n₂ = 528} {m₂ = 1428} (omega (arith, s.n-high, s.k-high)) s.p-high
 

@@ -6,7 +6,7 @@ use std::io::Read;
 use std::rt::{Env, Files};
 use std::{fs, str};
 
-// Opens the file that the first argument names, where there is one that can be opened. A path has 4,096 bytes at most.
+// Opens the file that the first argument names, where there is one that can be opened. A path has 4,095 bytes at most.
 pub fn open_argument<R: Env + Files>(rt: &R) -> Option<R::File> {
     let mut path = [0u8; 4096];
     let length = rt.arg(1, &mut path).ok()?;

@@ -1,4 +1,5 @@
 -- What the limits of a profile add (004, 4.5.3 and 4.5.6): numbers that a card can keep small, never more than two cycles of a column at a time,
+-- and bounds on when a column goes out.
 use Rattle.std.specs.Prelude.{◌≡◌, ℕ, ◌+◌, ◌*◌, ◌-◌, ◌%◌, ◌≤◌, ◌<◌}
 use Rattle.std.proofs.Math.Path.{ap}
 use Rattle.std.proofs.Common.{ap₂, mod-lt, eq-or-lt_of_le}

@@ -1,4 +1,6 @@
 -- Request 4's theorem, once over both arrangements: from an opening, each offer getting what the last one left, what goes out with each packet
+-- taken is what the schedule has for it, byte for byte what the base writes for that group; and of what the schedule has, each group
+-- goes out once.
 use Rattle.std.specs.Prelude.{◌≡◌, Bool, true, false, List, [], ◌∷◌, ◌++◌, eqb, length}
 use Rattle.std.proofs.Math.Path.{refl, ap}
 use Rattle.std.proofs.Common.{sym, ◌∙◌, ap₂, subst, arith, eqb-true, eq-eqb, ne_eqb}

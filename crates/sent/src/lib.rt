@@ -1,3 +1,3 @@
 #![tactic(auto)]
 
-// What a sender sends (request 4): specs/Theorem.antt has it, over the calls of `sender` and the definitions of `calls`. There is no code.
+// What a sender sends (request 4): proofs/Theorem.antt has it, over the calls of `sender` and the definitions of `calls`. There is no code.
