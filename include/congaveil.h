@@ -8,7 +8,7 @@
  * The library keeps nothing: the card lends the store to every call, and gets
  * the next window value back beside the answer. It has no heap, clock, socket or
  * variable of its own, asks for memcpy, memmove and memset and nothing else, and runs on
- * x86-64-v2, that is x86-64 with SSE up to 4.2.
+ * x86-64.
  *
  *     static uint8_t media[200 * 1316], marks[200], parity[40 * 1316];
  *     static uint32_t timestamps[200];

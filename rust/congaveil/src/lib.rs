@@ -112,8 +112,7 @@
 //! # Linking
 //!
 //! The build script looks for `libcongaveil.a` in the folder that `CONGAVEIL_LIB_DIR` names, an absolute path, or in
-//! `target/staticlib` of the repository, where `tools/library` puts it. It is compiled for x86-64-v2 (SSE up
-//! to 4.2).
+//! `target/staticlib` of the repository, where `tools/library` puts it. It is compiled for x86-64.
 #![no_std]
 #![deny(missing_docs)]
 
