@@ -5,8 +5,9 @@
 
 // Where the reading of a file stands, as the numbers that a card keeps between two pieces. A reading starts with zeros.
 #[repr(C)]
-#[derive(Clone, Copy)]
+#[derive(Clone, Copy, Default)]
 pub struct Reader {
+    // 0 in the header, 1 in a line, 2 in the bodies, 3 refused: a number, since the C interface has one here
     pub stage: u32,
     pub left: u32,
     pub next: u32,
@@ -25,7 +26,7 @@ pub struct Reading {
 
 // What a header says: 0, the base and the other numbers, or 21 and zeros.
 #[repr(C)]
-#[derive(Clone, Copy)]
+#[derive(Clone, Copy, Default)]
 pub struct Header {
     pub number: u32,
     pub base: u16,
@@ -39,7 +40,7 @@ pub struct Header {
 
 // What a line of the table says: 0, the port of the entry, where its body starts in the file and how long it is, or 21 and zeros.
 #[repr(C)]
-#[derive(Clone, Copy)]
+#[derive(Clone, Copy, Default)]
 pub struct Line {
     pub number: u32,
     pub port: u8,
@@ -57,6 +58,7 @@ pub struct Written {
 
 // Where a file is read: bytes of the header and the count so far; in a line, the lines after it, where its body
 // must start, all lengths before it, bytes of it read, its length so far; bytes of bodies to come; refused.
+// The fields have places and no names: what specs/ says of a stage gives them in this order.
 #[derive(Clone, Copy)]
 pub enum Stage {
     Head(u32, u32),

@@ -1,12 +1,49 @@
 // What the sender sends: a timestamp, a length and a payload for every number, and the datagrams over them.
 ghost use Rattle.std.specs.Prelude.{◌≤◌};
 
-use super::script;
+use super::script::{Change, Kind};
 
 // The number of position 0: the window lies across the wrap.
 pub const BASE: u16 = 65530;
 
 pub const SOURCE: u32 = 3232235777;
+
+// What the sender knows of the window: the most bytes of a payload, and the columns and the rows of the matrix.
+#[derive(Clone, Copy)]
+pub struct Shape {
+    pub p: usize,
+    pub l: u8,
+    pub d: u8,
+}
+
+// The numbers of a group: how many there are, and how far apart, from the first on.
+#[derive(Clone, Copy)]
+struct Group {
+    start: u16,
+    offset: u8,
+    na: u8,
+}
+
+impl Group {
+    // Its member j.
+    fn member(self, j: u8) -> u16 {
+        sequence::member_at(self.start, self.offset, j)
+    }
+}
+
+// The group of a packet: of media its own number alone.
+fn group_of(s: Shape, kind: Kind, number: u16) -> Group {
+    let (offset, na) = match kind {
+        Kind::Media => (0, 1),
+        Kind::Column => (s.l, s.d),
+        Kind::Row => (1, s.l),
+    };
+    Group {
+        start: number,
+        offset,
+        na,
+    }
+}
 
 // The timestamp of a number: 1000, 2000, 3000 and 4000 at positions 0, 4, 8 and 12.
 fn stamp(number: u16) -> u32 {
@@ -18,83 +55,61 @@ fn stamp(number: u16) -> u32 {
 fn size(p: usize, number: u16) -> u16
     ensures { result ≤ 376 }
 {
-    let i = sequence::position(BASE, number);
-    let long = (i == 0) | (i == 2) | (i == 3);
-    if (p == 376) & long { 376 } else { 188 }
+    let long = matches!(sequence::position(BASE, number), 0 | 2 | 3);
+    if p == 376 && long { 376 } else { 188 }
 }
 
 // The timestamps of a group, xored.
-fn stamps(start: u16, offset: u8, na: u8) -> u32 {
-    let mut sum: u32 = 0;
-    for j in 0..na {
-        sum = sum ^ stamp(sequence::member_at(start, offset, j));
-    }
-    sum
+fn stamps(g: Group) -> u32 {
+    (0..g.na).fold(0, |sum, j| sum ^ stamp(g.member(j)))
 }
 
 // The lengths of a group, xored.
-fn lengths(p: usize, start: u16, offset: u8, na: u8) -> u16 {
-    let mut sum: u16 = 0;
-    for j in 0..na {
-        sum = sum ^ size(p, sequence::member_at(start, offset, j));
-    }
-    sum
-}
-
-// The longer of two lengths.
-fn longer(a: u16, b: u16) -> u16
-    requires { (a ≤ 376) × (b ≤ 376) }
-    ensures { result ≤ 376 }
-{
-    if a < b { b } else { a }
+fn lengths(p: usize, g: Group) -> u16 {
+    (0..g.na).fold(0, |sum, j| sum ^ size(p, g.member(j)))
 }
 
 // The longest of a group.
-fn longest(p: usize, start: u16, offset: u8, na: u8) -> u16
+fn longest(p: usize, g: Group) -> u16
     ensures { result ≤ 376 }
 {
-    let mut most: u16 = 0;
-    for j in 0..na {
-        most = longer(most, size(p, sequence::member_at(start, offset, j)));
+    let mut most = 0;
+    for j in 0..g.na {
+        most = size(p, g.member(j)).max(most);
     }
     most
 }
 
-// The payload of a number, xored into a datagram from a place to an end: every eleventh byte, the last of a unit among them,
-// counts on from twice the number, and the others are zero.
-fn joined(g: [u8; 592], from: usize, end: usize, number: u16) -> [u8; 592]
-    requires { end ≤ 592 }
-{
-    let mut out = g;
+// The payload of a number, xored into a payload: every eleventh byte, the last of a unit among them, counts on from twice the number,
+// and the others are zero.
+fn join(payload: &mut [u8], number: u16) {
     let n = rtp::low(number);
     let mut value = n.wrapping_add(n);
-    let mut i = from;
-    while i < end {
-        out[i] = out[i] ^ value;
+    for i in (0..payload.len()).step_by(11) {
+        payload[i] ^= value;
         value = value.wrapping_add(11);
-        i += 11;
     }
-    out
 }
 
 // The payloads of a group, xored, in a datagram behind its headers.
-fn filled(g: [u8; 592], headers: usize, p: usize, start: u16, offset: u8, na: u8) -> [u8; 592]
+fn fill(out: &mut [u8; 592], headers: usize, p: usize, g: Group)
     requires { headers ≤ 28 }
 {
-    let mut out = g;
-    for j in 0..na {
-        let number = sequence::member_at(start, offset, j);
-        let next = joined(out, headers, headers + size(p, number) as usize, number);
-        out = next;
+    for j in 0..g.na {
+        let number = g.member(j);
+        join(
+            &mut out[headers..headers + size(p, number) as usize],
+            number,
+        );
     }
-    out
 }
 
 // The media datagram of a number, with zeros behind it.
-fn media(p: usize, number: u16) -> [u8; 592] {
-    let mut g = [0u8; 592];
-    rtp::write_rtp(&mut g, rtp::MEDIA_TYPE, number, stamp(number), SOURCE);
-    filled(g, 12, p, number, 0, 1)
+fn media(s: Shape, number: u16) -> [u8; 592] {
+    let mut out = [0; 592];
+    rtp::write_rtp(&mut out, rtp::MEDIA_TYPE, number, stamp(number), SOURCE);
+    fill(&mut out, 12, s.p, group_of(s, Kind::Media, number));
+    out
 }
 
 // PT recovery over NA members.
@@ -105,93 +120,65 @@ fn type_recovery(na: u8) -> u8
 }
 
 // The parity datagram of a group, with zeros behind it.
-fn parity(p: usize, stream: u8, start: u16, offset: u8, na: u8) -> [u8; 592]
+fn parity(p: usize, stream: u8, g: Group) -> [u8; 592]
     requires { stream ≤ 1 }
 {
-    let mut g = [0u8; 592];
-    rtp::write_rtp(&mut g, rtp::PARITY_TYPE, 7, 0, 0);
+    let mut out = [0; 592];
+    rtp::write_rtp(&mut out, rtp::PARITY_TYPE, 7, 0, 0);
     rtp::write_fec(
-        &mut g,
-        start,
-        lengths(p, start, offset, na),
-        type_recovery(na),
-        stamps(start, offset, na),
+        &mut out,
+        g.start,
+        lengths(p, g),
+        type_recovery(g.na),
+        stamps(g),
         stream,
-        offset,
-        na,
+        g.offset,
+        g.na,
     );
-    filled(g, 28, p, start, offset, na)
+    fill(&mut out, 28, p, g);
+    out
 }
 
 // The datagram that a step offers, or that it ought to read or write.
-pub fn datagram(p: usize, kind: u64, number: u16, l: u8, d: u8) -> [u8; 592] {
-    if (kind == script::MEDIA) | (kind == script::READ) {
-        return media(p, number);
+pub fn datagram(s: Shape, kind: Kind, number: u16) -> [u8; 592] {
+    match kind {
+        Kind::Media => media(s, number),
+        Kind::Column => parity(s.p, rtp::COLUMN, group_of(s, kind, number)),
+        Kind::Row => parity(s.p, rtp::ROW, group_of(s, kind, number)),
     }
-    if (kind == script::COLUMN) | (kind == script::WRITE_COLUMN) {
-        return parity(p, rtp::COLUMN, number, l, d);
-    }
-    parity(p, rtp::ROW, number, 1, l)
 }
 
-// A datagram with another length recovery.
-fn recovering(g: [u8; 592], value: u16) -> [u8; 592] {
-    let mut out = g;
-    out[14] = rtp::high(value);
-    out[15] = rtp::low(value);
+// What differs in a datagram.
+fn alter(out: &mut [u8; 592], change: Change) {
+    match change {
+        Change::Byte(at, value) if at < 592 => out[at] = value,
+        Change::Bare(_) => out[12..].fill(0),
+        Change::Zeros(_) => out.fill(0),
+        Change::Recovers(value) => out[14..16].copy_from_slice(&value.to_be_bytes()),
+        _ => {}
+    }
+}
+
+// The datagram with what differs in it.
+pub fn altered(s: Shape, kind: Kind, number: u16, change: Change) -> [u8; 592] {
+    if let Change::Members(d) = change {
+        return datagram(Shape { d, ..s }, kind, number);
+    }
+    let mut out = datagram(s, kind, number);
+    alter(&mut out, change);
     out
-}
-
-// A datagram with what differs in it.
-pub fn altered(g: [u8; 592], what: u64, value: u16) -> [u8; 592] {
-    let mut out = g;
-    let byte = what / script::DIFFERS;
-    if byte == 0 {
-        return out;
-    }
-    if what == script::RECOVERS {
-        return recovering(g, value);
-    }
-    if byte <= 592 {
-        out[byte as usize - 1] = rtp::low(value);
-    } else if what == script::BARE {
-        xor::zero_at(&mut out, 12, 580);
-    } else if what == script::ZEROS {
-        xor::zero_at(&mut out, 0, 592);
-    }
-    out
-}
-
-// The length of the payload of a datagram that a step offers: a parity packet's is that of the longest of its group.
-pub fn payload_length(p: usize, kind: u64, number: u16, l: u8, d: u8) -> u16
-    ensures { result ≤ 376 }
-{
-    if kind == script::MEDIA {
-        return size(p, number);
-    }
-    if kind == script::COLUMN {
-        return longest(p, number, l, d);
-    }
-    longest(p, number, 1, l)
 }
 
 // The bytes before a payload.
-fn headers(kind: u64) -> usize
+pub fn headers(kind: Kind) -> usize
     ensures { result ≤ 28 }
 {
-    if kind == script::MEDIA { 12 } else { 28 }
+    if kind == Kind::Media { 12 } else { 28 }
 }
 
-// The length of a datagram with a payload of that length, unless what differs says another.
-pub fn length(kind: u64, payload: u16, what: u64, value: u16) -> usize
-    requires { payload ≤ 376 }
+// The length of a datagram that a step offers: a parity packet's payload has that of the longest of its group.
+pub fn length(s: Shape, kind: Kind, number: u16) -> usize
     ensures { result ≤ 592 }
 {
-    let given = (what == script::LENGTH) | (what == script::BARE) | (what == script::ZEROS);
-    if given {
-        if value <= 592 {
-            return value as usize;
-        }
-    }
-    headers(kind) + payload as usize
+    headers(kind) + longest(s.p, group_of(s, kind, number)) as usize
 }

@@ -4,11 +4,12 @@
 // sender.
 // Every call ends on every input; a refused one gives back its number and changes nothing that was lent.
 // The records in use are gathered into a hand: few of them into a small array, more into a large one, which is made only then.
-ghost use Rattle.std.specs.Prelude.{◌≡◌};
-ghost use Rattle.window.specs.Store.{stored};
+ghost use Rattle.std.specs.Prelude.{◌≡◌, ◌<◌, ◌≤◌, length};
+ghost use Rattle.window.specs.Store.{stored, viewed};
 ghost use Rattle.rtp.specs.Fec.{column, row};
 ghost use Rattle.calls.specs.Call.{asked, opened, offered_media, offered_parity, read_out, wrote_parity};
 ghost use Rattle.calls.specs.Move.{moved};
+ghost use Rattle.face.specs.Done.{Lent};
 ghost use Rattle.face.specs.Reply.{replied, filled, carried};
 ghost use Rattle.capture.specs.Calls.{read_on, header_read, entry_read, wrote};
 ghost use Rattle.sender.specs.Sums.{lent};
@@ -17,7 +18,8 @@ ghost use Rattle.sender.specs.Call as sending;
 use capture::{Header, Line, Reader, Reading, Written};
 use face::Reply;
 use sender::{Outer, Sender, Sent};
-use window::{Record, Window};
+use table::Row;
+use window::{Record, StoreView, Window};
 
 // Opens a window over n positions from a base number; all that it needs of the store is set to zero.
 #[unsafe(no_mangle)]
@@ -58,6 +60,126 @@ pub extern "C" fn cgv_open(
     done.reply
 }
 
+// The records in use as a hand of any number: no more are looked through than a window may have, so there is always room.
+fn gather_all(records: &[Record], k: usize, rows: &mut [Row]) -> usize
+    requires { length rows.old ≡ 129 }
+    ensures { (result < length rows.new) × Lent (length records.now) k result rows.new records.now }
+{
+    let Some(m) = face::gather(records, k, rows) else {
+        return 0;
+    };
+    m
+}
+
+// A media datagram is offered over a hand of m rows, and what it leaves of them goes back into the table.
+fn media_over(
+    w: Window,
+    datagram: &[u8],
+    media: &mut [u8],
+    timestamps: &mut [u32],
+    lengths: &mut [u16],
+    marks: &mut [u8],
+    parity: &mut [u8],
+    records: &mut [Record],
+    rows: &mut [Row],
+    m: usize,
+) -> Reply
+    requires { (m < length rows.old) × Lent (length records.old) w.k m rows.old records.old }
+    ensures { record { reply = result; store = stored media.new timestamps.new lengths.new marks.new parity.new records.new }
+        ≡ replied (offered_media w datagram.now (stored media.old timestamps.old lengths.old marks.old parity.old records.old)) }
+{
+    let len = records.len();
+    let done = face::media(
+        w, datagram, media, timestamps, lengths, marks, parity, rows, m, len,
+    );
+    table::scatter_back(records, &rows[..done.rows]);
+    done.reply
+}
+
+// A parity datagram is offered on the port of a stream over a hand of m rows, and what it leaves of them goes back into the table.
+fn parity_over(
+    w: Window,
+    stream: u8,
+    datagram: &[u8],
+    media: &mut [u8],
+    timestamps: &mut [u32],
+    lengths: &mut [u16],
+    marks: &mut [u8],
+    parity: &mut [u8],
+    records: &mut [Record],
+    rows: &mut [Row],
+    m: usize,
+) -> Reply
+    requires { (m < length rows.old) × Lent (length records.old) w.k m rows.old records.old }
+    ensures { record { reply = result; store = stored media.new timestamps.new lengths.new marks.new parity.new records.new }
+        ≡ replied (offered_parity stream w datagram.now (stored media.old timestamps.old lengths.old marks.old parity.old records.old)) }
+{
+    let len = records.len();
+    let done = face::parity(
+        w, stream, datagram, media, timestamps, lengths, marks, parity, rows, m, len,
+    );
+    table::scatter_back(records, &rows[..done.rows]);
+    done.reply
+}
+
+// A parity datagram is offered on the port of a stream.
+fn offer_parity(
+    w: Window,
+    stream: u8,
+    datagram: &[u8],
+    media: &mut [u8],
+    timestamps: &mut [u32],
+    lengths: &mut [u16],
+    marks: &mut [u8],
+    parity: &mut [u8],
+    records: &mut [Record],
+) -> Reply
+    ensures { record { reply = result; store = stored media.new timestamps.new lengths.new marks.new parity.new records.new }
+        ≡ replied (offered_parity stream w datagram.now (stored media.old timestamps.old lengths.old marks.old parity.old records.old)) }
+{
+    let mut few = [Row::default(); 16];
+    if let Some(m) = face::gather(records, w.k, &mut few) {
+        return parity_over(
+            w, stream, datagram, media, timestamps, lengths, marks, parity, records, &mut few, m,
+        );
+    }
+    let mut many = [Row::default(); 129];
+    let m = gather_all(records, w.k, &mut many);
+    parity_over(
+        w, stream, datagram, media, timestamps, lengths, marks, parity, records, &mut many, m,
+    )
+}
+
+// The parity datagram of a group of a stream is written.
+fn write_parity(
+    w: Window,
+    stream: u8,
+    snbase: u16,
+    sequence: u16,
+    timestamp: u32,
+    ssrc: u32,
+    store: StoreView,
+    records: &[Record],
+    out: &mut [u8],
+) -> Reply
+    requires { stream ≤ 1 }
+    ensures { record { reply = result; out = out.new }
+        ≡ filled (wrote_parity stream w snbase (record { sequence = sequence; timestamp = timestamp; ssrc = ssrc }) (viewed store.entry records.now) out.old) }
+{
+    let len = records.len();
+    let mut few = [Row::default(); 16];
+    if let Some(m) = face::gather(records, w.k, &mut few) {
+        return face::write_parity(
+            w, stream, snbase, sequence, timestamp, ssrc, store, &mut few, m, len, out,
+        );
+    }
+    let mut many = [Row::default(); 129];
+    let m = gather_all(records, w.k, &mut many);
+    face::write_parity(
+        w, stream, snbase, sequence, timestamp, ssrc, store, &mut many, m, len, out,
+    )
+}
+
 // Offers a media datagram; the count is of packets rebuilt.
 #[unsafe(no_mangle)]
 pub extern "C" fn cgv_media(
@@ -73,41 +195,17 @@ pub extern "C" fn cgv_media(
     ensures { record { reply = result; store = stored media.new timestamps.new lengths.new marks.new parity.new records.new }
         ≡ replied (offered_media w datagram.now (stored media.old timestamps.old lengths.old marks.old parity.old records.old)) }
 {
-    let k = face::reach(records.len(), w.k);
-    let mut few = face::few_words();
-    let m = table::gather(records, k, &mut few, face::FEW);
-    if face::enough(m) {
-        let done = face::media(
-            w,
-            datagram,
-            media,
-            timestamps,
-            lengths,
-            marks,
-            parity,
-            &mut few,
-            m,
-            records.len(),
+    let mut few = [Row::default(); 16];
+    if let Some(m) = face::gather(records, w.k, &mut few) {
+        return media_over(
+            w, datagram, media, timestamps, lengths, marks, parity, records, &mut few, m,
         );
-        table::scatter_back(records, &few, done.rows);
-        return done.reply;
     }
-    let mut many = face::all_words();
-    let m = table::gather(records, k, &mut many, window::MOST_RECORDS);
-    let done = face::media(
-        w,
-        datagram,
-        media,
-        timestamps,
-        lengths,
-        marks,
-        parity,
-        &mut many,
-        m,
-        records.len(),
-    );
-    table::scatter_back(records, &many, done.rows);
-    done.reply
+    let mut many = [Row::default(); 129];
+    let m = gather_all(records, w.k, &mut many);
+    media_over(
+        w, datagram, media, timestamps, lengths, marks, parity, records, &mut many, m,
+    )
 }
 
 // Offers a column parity datagram; the count is of packets rebuilt.
@@ -125,41 +223,17 @@ pub extern "C" fn cgv_column(
     ensures { record { reply = result; store = stored media.new timestamps.new lengths.new marks.new parity.new records.new }
         ≡ replied (offered_parity column w datagram.now (stored media.old timestamps.old lengths.old marks.old parity.old records.old)) }
 {
-    let k = face::reach(records.len(), w.k);
-    let mut few = face::few_words();
-    let m = table::gather(records, k, &mut few, face::FEW);
-    if face::enough(m) {
-        let done = face::column(
-            w,
-            datagram,
-            media,
-            timestamps,
-            lengths,
-            marks,
-            parity,
-            &mut few,
-            m,
-            records.len(),
-        );
-        table::scatter_back(records, &few, done.rows);
-        return done.reply;
-    }
-    let mut many = face::all_words();
-    let m = table::gather(records, k, &mut many, window::MOST_RECORDS);
-    let done = face::column(
+    offer_parity(
         w,
+        rtp::COLUMN,
         datagram,
         media,
         timestamps,
         lengths,
         marks,
         parity,
-        &mut many,
-        m,
-        records.len(),
-    );
-    table::scatter_back(records, &many, done.rows);
-    done.reply
+        records,
+    )
 }
 
 // Offers a row parity datagram; the count is of packets rebuilt.
@@ -177,41 +251,17 @@ pub extern "C" fn cgv_row(
     ensures { record { reply = result; store = stored media.new timestamps.new lengths.new marks.new parity.new records.new }
         ≡ replied (offered_parity row w datagram.now (stored media.old timestamps.old lengths.old marks.old parity.old records.old)) }
 {
-    let k = face::reach(records.len(), w.k);
-    let mut few = face::few_words();
-    let m = table::gather(records, k, &mut few, face::FEW);
-    if face::enough(m) {
-        let done = face::row(
-            w,
-            datagram,
-            media,
-            timestamps,
-            lengths,
-            marks,
-            parity,
-            &mut few,
-            m,
-            records.len(),
-        );
-        table::scatter_back(records, &few, done.rows);
-        return done.reply;
-    }
-    let mut many = face::all_words();
-    let m = table::gather(records, k, &mut many, window::MOST_RECORDS);
-    let done = face::row(
+    offer_parity(
         w,
+        rtp::ROW,
         datagram,
         media,
         timestamps,
         lengths,
         marks,
         parity,
-        &mut many,
-        m,
-        records.len(),
-    );
-    table::scatter_back(records, &many, done.rows);
-    done.reply
+        records,
+    )
 }
 
 // Moves the window on by a number of positions: the packets that leave are written to `out`, a slot of 12 + P bytes each, and their
@@ -232,24 +282,13 @@ pub extern "C" fn cgv_move(
     ensures { record { reply = result; store = stored media.new timestamps.new lengths.new marks.new parity.new records.new; out = out.new; sizes = sizes.new }
         ≡ carried (moved w by (stored media.old timestamps.old lengths.old marks.old parity.old records.old) out.old sizes.old) }
 {
-    let k = face::reach(records.len(), w.k);
-    let mut many = face::all_words();
-    let m = table::gather(records, k, &mut many, window::MOST_RECORDS);
+    let len = records.len();
+    let mut many = [Row::default(); 129];
+    let m = gather_all(records, w.k, &mut many);
     let done = face::advance(
-        w,
-        by,
-        media,
-        timestamps,
-        lengths,
-        marks,
-        parity,
-        &mut many,
-        m,
-        records.len(),
-        out,
-        sizes,
+        w, by, media, timestamps, lengths, marks, parity, &mut many, m, len, out, sizes,
     );
-    table::scatter_back(records, &many, done.rows);
+    table::scatter_back(records, &many[..done.rows]);
     done.reply
 }
 
@@ -269,39 +308,21 @@ pub extern "C" fn cgv_read(
     ensures { record { reply = result; out = out.new }
         ≡ filled (read_out w number (stored media.now timestamps.now lengths.now marks.now parity.now records.now) out.old) }
 {
-    let k = face::reach(records.len(), w.k);
-    let mut few = face::few_words();
-    let m = table::gather(records, k, &mut few, face::FEW);
-    if face::enough(m) {
-        return face::read(
-            w,
-            number,
-            media,
-            timestamps,
-            lengths,
-            marks,
-            parity,
-            &mut few,
-            m,
-            records.len(),
-            out,
-        );
-    }
-    let mut many = face::all_words();
-    let m = table::gather(records, k, &mut many, window::MOST_RECORDS);
-    face::read(
-        w,
-        number,
+    let len = records.len();
+    let store = StoreView {
         media,
         timestamps,
         lengths,
         marks,
         parity,
-        &mut many,
-        m,
-        records.len(),
-        out,
-    )
+    };
+    let mut few = [Row::default(); 16];
+    if let Some(m) = face::gather(records, w.k, &mut few) {
+        return face::read(w, number, store, &mut few, m, len, out);
+    }
+    let mut many = [Row::default(); 129];
+    let m = gather_all(records, w.k, &mut many);
+    face::read(w, number, store, &mut many, m, len, out)
 }
 
 // Writes the parity datagram of a column; the count is of bytes written.
@@ -323,43 +344,22 @@ pub extern "C" fn cgv_write_column(
     ensures { record { reply = result; out = out.new }
         ≡ filled (wrote_parity column w snbase (record { sequence = sequence; timestamp = timestamp; ssrc = ssrc }) (stored media.now timestamps.now lengths.now marks.now parity.now records.now) out.old) }
 {
-    let k = face::reach(records.len(), w.k);
-    let mut few = face::few_words();
-    let m = table::gather(records, k, &mut few, face::FEW);
-    if face::enough(m) {
-        return face::write_column(
-            w,
-            snbase,
-            sequence,
-            timestamp,
-            ssrc,
-            media,
-            timestamps,
-            lengths,
-            marks,
-            parity,
-            &mut few,
-            m,
-            records.len(),
-            out,
-        );
-    }
-    let mut many = face::all_words();
-    let m = table::gather(records, k, &mut many, window::MOST_RECORDS);
-    face::write_column(
-        w,
-        snbase,
-        sequence,
-        timestamp,
-        ssrc,
+    let store = StoreView {
         media,
         timestamps,
         lengths,
         marks,
         parity,
-        &mut many,
-        m,
-        records.len(),
+    };
+    write_parity(
+        w,
+        rtp::COLUMN,
+        snbase,
+        sequence,
+        timestamp,
+        ssrc,
+        store,
+        records,
         out,
     )
 }
@@ -383,43 +383,22 @@ pub extern "C" fn cgv_write_row(
     ensures { record { reply = result; out = out.new }
         ≡ filled (wrote_parity row w snbase (record { sequence = sequence; timestamp = timestamp; ssrc = ssrc }) (stored media.now timestamps.now lengths.now marks.now parity.now records.now) out.old) }
 {
-    let k = face::reach(records.len(), w.k);
-    let mut few = face::few_words();
-    let m = table::gather(records, k, &mut few, face::FEW);
-    if face::enough(m) {
-        return face::write_row(
-            w,
-            snbase,
-            sequence,
-            timestamp,
-            ssrc,
-            media,
-            timestamps,
-            lengths,
-            marks,
-            parity,
-            &mut few,
-            m,
-            records.len(),
-            out,
-        );
-    }
-    let mut many = face::all_words();
-    let m = table::gather(records, k, &mut many, window::MOST_RECORDS);
-    face::write_row(
-        w,
-        snbase,
-        sequence,
-        timestamp,
-        ssrc,
+    let store = StoreView {
         media,
         timestamps,
         lengths,
         marks,
         parity,
-        &mut many,
-        m,
-        records.len(),
+    };
+    write_parity(
+        w,
+        rtp::ROW,
+        snbase,
+        sequence,
+        timestamp,
+        ssrc,
+        store,
+        records,
         out,
     )
 }

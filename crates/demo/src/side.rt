@@ -1,252 +1,182 @@
-// A sender's or a receiver's window with its store, by value, and the calls on it.
-use answer::Answer;
-use receiver::{Receiver, Step};
+// A sender's or a receiver's window with its store, and the calls on it.
+ghost use Rattle.std.specs.Prelude.{◌≤◌};
+
+use answer::{Counts, Refusal};
+use receiver::Receiver;
+use std::array;
+use table::Row;
+use window::{Record, StoreView, Window};
 
 // The number of position 0, and the SSRC of the media.
 pub const BASE: u16 = 65530;
 
 pub const SOURCE: u32 = 3232235777;
 
-// The ports.
-pub const COLUMN: u8 = 0;
-
-pub const ROW: u8 = 1;
-
-pub const MEDIA: u8 = 2;
+// A port, and the packets that go to it.
+#[derive(Clone, Copy, PartialEq, Eq)]
+pub enum Port {
+    Media,
+    Column,
+    Row,
+}
 
 // How many records there are.
 const RECORDS: usize = 8;
 
-// The store of 16 positions and 8 records of 188 bytes, and what the last call gave back. The table of records is kept as
-// rows, row i at slot i, with room for one row more.
+// The window, and a store of 16 positions and 8 records of 188 bytes. The table of records is kept as rows, row i at slot i, with
+// room for one row more.
 #[derive(Clone, Copy)]
 pub struct Side {
-    pub media: [u8; 3008],
-    pub timestamps: [u32; 16],
-    pub lengths: [u16; 16],
+    media: [u8; 3008],
+    timestamps: [u32; 16],
+    lengths: [u16; 16],
     pub marks: [u8; 16],
-    pub parity: [u8; 1504],
-    pub words: [u32; 36],
-    pub answer: Answer,
-    pub receiver: Receiver,
+    parity: [u8; 1504],
+    rows: [Row; 9],
+    receiver: Receiver,
 }
 
-// Rows that are free, each at its slot.
-fn free_rows() -> [u32; 36] {
-    let mut words = [0u32; 36];
-    for i in 0..RECORDS {
-        table::put_row(&mut words, i, i as u32, 0, window::free_record());
-    }
-    words
-}
-
-// A window of 4 columns and 4 rows is opened. Its records are to be set free: its rows are new, and free already.
-pub fn open() -> Side {
-    let mut media = [0u8; 3008];
-    let mut timestamps = [0u32; 16];
-    let mut lengths = [0u16; 16];
-    let mut marks = [0u8; 16];
-    let mut parity = [0u8; 1504];
-    let opening = Receiver::open(
-        BASE,
-        SOURCE,
-        4,
-        4,
-        188,
-        16,
-        RECORDS,
-        &mut media,
-        &mut timestamps,
-        &mut lengths,
-        &mut marks,
-        &mut parity,
-        RECORDS,
-    );
-    let words = free_rows();
-    let answer = opening.answer;
-    let receiver = opening.receiver;
-    Side {
-        media,
-        timestamps,
-        lengths,
-        marks,
-        parity,
-        words,
-        answer,
-        receiver,
+// Row i of a table of free records.
+fn free_row(i: usize) -> Row
+    requires { i ≤ 8 }
+{
+    Row {
+        slot: i as u16,
+        note: 0,
+        it: Record::default(),
     }
 }
 
-// A datagram goes to a port: m media, t timestamps, s lengths, k marks, p parity, h rows.
-fn hand_in(
-    w: Receiver,
-    port: u8,
-    g: &[u8],
-    m: &mut [u8; 3008],
-    t: &mut [u32; 16],
-    s: &mut [u16; 16],
-    k: &mut [u8; 16],
-    p: &mut [u8; 1504],
-    h: &mut [u32; 36],
-) -> Step {
-    if port == MEDIA {
-        return w.media(g, m, t, s, k, p, h, RECORDS, RECORDS);
-    }
-    if port == COLUMN {
-        return w.column(g, m, t, s, k, p, h, RECORDS, RECORDS);
-    }
-    w.row(g, m, t, s, k, p, h, RECORDS, RECORDS)
-}
-
-// A datagram is offered on a port.
-pub fn offer(side: Side, port: u8, g: &[u8]) -> Side {
-    let w = side.receiver;
-    let mut media = side.media;
-    let mut timestamps = side.timestamps;
-    let mut lengths = side.lengths;
-    let mut marks = side.marks;
-    let mut parity = side.parity;
-    let mut words = side.words;
-    let step = hand_in(
-        w,
-        port,
-        g,
-        &mut media,
-        &mut timestamps,
-        &mut lengths,
-        &mut marks,
-        &mut parity,
-        &mut words,
-    );
-    let answer = step.answer;
-    let receiver = step.receiver;
-    Side {
-        media,
-        timestamps,
-        lengths,
-        marks,
-        parity,
-        words,
-        answer,
-        receiver,
+// The window value before the opening, which is in no order.
+fn closed() -> Receiver {
+    Receiver {
+        window: Window::default(),
     }
 }
 
-// The packet of a number as it is read out; zeros where it is missing.
-pub fn packet(side: Side, number: u16) -> [u8; 200] {
-    let w = side.receiver;
-    let media = side.media;
-    let timestamps = side.timestamps;
-    let lengths = side.lengths;
-    let marks = side.marks;
-    let parity = side.parity;
-    let mut words = side.words;
-    let mut out = [0u8; 200];
-    w.read(
-        number,
-        &media,
-        &timestamps,
-        &lengths,
-        &marks,
-        &parity,
-        &mut words,
-        RECORDS,
-        RECORDS,
-        &mut out,
-    );
-    out
-}
+impl Side {
+    // A window of 4 columns and 4 rows is opened. Its records are to be set free: its rows are new, and free already.
+    pub fn open() -> Side {
+        let mut side = Side {
+            media: [0; 3008],
+            timestamps: [0; 16],
+            lengths: [0; 16],
+            marks: [0; 16],
+            parity: [0; 1504],
+            rows: array::from_fn(|i| free_row(i)),
+            receiver: closed(),
+        };
+        let opening = Receiver::open(
+            BASE,
+            SOURCE,
+            4,
+            4,
+            188,
+            16,
+            RECORDS,
+            &mut side.media,
+            &mut side.timestamps,
+            &mut side.lengths,
+            &mut side.marks,
+            &mut side.parity,
+            RECORDS,
+        );
+        side.receiver = opening.receiver;
+        side
+    }
 
-// The parity packet of the column that starts at a number; zeros where one of it is missing.
-pub fn column(side: Side, start: u16, sequence: u16) -> [u8; 216] {
-    let w = side.receiver;
-    let media = side.media;
-    let timestamps = side.timestamps;
-    let lengths = side.lengths;
-    let marks = side.marks;
-    let parity = side.parity;
-    let mut words = side.words;
-    let mut out = [0u8; 216];
-    w.write_column(
-        start,
-        sequence,
-        0,
-        0,
-        &media,
-        &timestamps,
-        &lengths,
-        &marks,
-        &parity,
-        &mut words,
-        RECORDS,
-        RECORDS,
-        &mut out,
-    );
-    out
-}
+    // A datagram is offered on a port.
+    pub fn offer(&mut self, port: Port, g: &[u8]) -> Result<Counts, Refusal> {
+        let w = self.receiver;
+        let m = &mut self.media;
+        let t = &mut self.timestamps;
+        let s = &mut self.lengths;
+        let k = &mut self.marks;
+        let p = &mut self.parity;
+        let h = &mut self.rows;
+        let step = match port {
+            Port::Media => w.media(g, m, t, s, k, p, h, RECORDS, RECORDS),
+            Port::Column => w.column(g, m, t, s, k, p, h, RECORDS, RECORDS),
+            Port::Row => w.row(g, m, t, s, k, p, h, RECORDS, RECORDS),
+        };
+        self.receiver = step.receiver;
+        step.answer
+    }
 
-// The parity packet of the row that starts at a number; zeros where one of it is missing.
-pub fn row(side: Side, start: u16, sequence: u16) -> [u8; 216] {
-    let w = side.receiver;
-    let media = side.media;
-    let timestamps = side.timestamps;
-    let lengths = side.lengths;
-    let marks = side.marks;
-    let parity = side.parity;
-    let mut words = side.words;
-    let mut out = [0u8; 216];
-    w.write_row(
-        start,
-        sequence,
-        0,
-        0,
-        &media,
-        &timestamps,
-        &lengths,
-        &marks,
-        &parity,
-        &mut words,
-        RECORDS,
-        RECORDS,
-        &mut out,
-    );
-    out
-}
+    // The store but for its records, to be read.
+    fn view(&self) -> StoreView {
+        StoreView {
+            media: &self.media,
+            timestamps: &self.timestamps,
+            lengths: &self.lengths,
+            marks: &self.marks,
+            parity: &self.parity,
+        }
+    }
 
-// The window moves on by all of its positions; the answer counts the packets that left and were not lost.
-pub fn advance(side: Side) -> Side {
-    let w = side.receiver;
-    let mut media = side.media;
-    let mut timestamps = side.timestamps;
-    let mut lengths = side.lengths;
-    let mut marks = side.marks;
-    let mut parity = side.parity;
-    let mut words = side.words;
-    let mut out = [0u8; 3200];
-    let mut sizes = [0u16; 16];
-    let step = w.advance(
-        16,
-        &mut media,
-        &mut timestamps,
-        &mut lengths,
-        &mut marks,
-        &mut parity,
-        &mut words,
-        RECORDS,
-        RECORDS,
-        &mut out,
-        &mut sizes,
-    );
-    let answer = step.answer;
-    let receiver = step.receiver;
-    Side {
-        media,
-        timestamps,
-        lengths,
-        marks,
-        parity,
-        words,
-        answer,
-        receiver,
+    // The packet of a number as it is read out; zeros where it is missing.
+    pub fn packet(&self, number: u16) -> [u8; 200] {
+        let mut rows = self.rows;
+        let mut out = [0; 200];
+        self.receiver
+            .read(number, self.view(), &mut rows, RECORDS, RECORDS, &mut out);
+        out
+    }
+
+    // The parity packet of the column that starts at a number; zeros where one of it is missing.
+    pub fn column(&self, start: u16, sequence: u16) -> [u8; 216] {
+        let mut rows = self.rows;
+        let mut out = [0; 216];
+        self.receiver.write_column(
+            start,
+            sequence,
+            0,
+            0,
+            self.view(),
+            &mut rows,
+            RECORDS,
+            RECORDS,
+            &mut out,
+        );
+        out
+    }
+
+    // The parity packet of the row that starts at a number; zeros where one of it is missing.
+    pub fn row(&self, start: u16, sequence: u16) -> [u8; 216] {
+        let mut rows = self.rows;
+        let mut out = [0; 216];
+        self.receiver.write_row(
+            start,
+            sequence,
+            0,
+            0,
+            self.view(),
+            &mut rows,
+            RECORDS,
+            RECORDS,
+            &mut out,
+        );
+        out
+    }
+
+    // The window moves on by all of its positions; the answer counts the packets that left and were not lost.
+    pub fn advance(&mut self) -> Result<Counts, Refusal> {
+        let mut out = [0; 3200];
+        let mut sizes = [0; 16];
+        let step = self.receiver.advance(
+            16,
+            &mut self.media,
+            &mut self.timestamps,
+            &mut self.lengths,
+            &mut self.marks,
+            &mut self.parity,
+            &mut self.rows,
+            RECORDS,
+            RECORDS,
+            &mut out,
+            &mut sizes,
+        );
+        self.receiver = step.receiver;
+        step.answer
     }
 }

@@ -16,7 +16,8 @@ use Rattle.window.specs.Group.{group, is_missing, missing}
 use Rattle.window.specs.Look.{look}
 use Rattle.window.specs.Order.{used}
 use Rattle.window.specs.Plain.{Inside}
-use Rattle.table.specs.View.{Row, nobody, it_at, put_note}
+use Rattle.table.specs.declared.Row.{Row}
+use Rattle.table.specs.View.{nobody, it_at, put_note}
 use Rattle.table.specs.Note.{note_of, note-same}
 use Rattle.table.specs.Apart.{Alike, alike_refl, alike_trans, alike-note, alike-length, alike-it}
 use Rattle.table.specs.Sound.{SoundRow, Sound}

@@ -18,7 +18,8 @@ use Rattle.window.specs.Order.{used}
 use Rattle.calls.specs.State.{State, scene, recount, release, release_if, release_below}
 use Rattle.calls.specs.Settle.{spent, release_all}
 use Rattle.table.specs.Note.{says_none, none_is}
-use Rattle.table.specs.View.{Row, nobody, slot_at, note_at, it_at, put, slots, scatter}
+use Rattle.table.specs.declared.Row.{Row}
+use Rattle.table.specs.View.{nobody, slot_at, note_at, it_at, put, slots, scatter}
 use Rattle.table.specs.Apart.{Free, Fits, get-scatter, set-scatter, apart-scatter, slots-put, same-slot, same-fits, same_length}
 use Rattle.table.specs.Fold.{below, rows, fold}
 use Rattle.table.specs.Sound.{SoundRow, Sound}

@@ -3,10 +3,12 @@ use mathlib.Core.Path.{◌≡◌, refl, sym, ap, subst, ◌∙◌}
 use mathlib.Core.Bool.{Bool, true, false, cond}
 use mathlib.Core.List.{List, [], ◌∷◌}
 use mathlib.Core.Option.{none, some}
-use Prim.Native.Nat.{ℕ, ◌+◌, ◌*◌, ◌^◌, ◌<◌, ◌≤◌}
+use Rattle.std.specs.Prelude.{None, Some}
+use Prim.Native.Nat.{ℕ, ◌+◌, ◌*◌, ◌-◌, ◌^◌, ◌<◌, ◌≤◌}
 use native.Mathlib.Nat.{add-zero}
 use native.Mathlib.Omega.{arith}
-use lib.ListN.{length, get_or, take, drop, set, length-set}
+use lib.ListN.{length, get_or, take, drop, set, length-set, length-drop}
+use lib.Seq.{length-take-le}
 use borrow.Author.Tests.{leb-true}
 use Rattle.sequence.specs.Lists.{head_or}
 use Rattle.window.specs.declared.Record.{Record}
@@ -21,18 +23,19 @@ use Rattle.xor.specs.Xor.{padded}
 use Rattle.calls.specs.Content.{Recovery}
 use Rattle.calls.specs.State.{State, scene, recount, rebuild, count_spoilt, release}
 use Rattle.calls.specs.Settle.{next, fits_at, rebuild_by, release_all, round}
-use Rattle.table.specs.View.{Row, nobody, slot_at, note_at, it_at, scatter}
+use Rattle.table.specs.declared.Row.{Row}
+use Rattle.table.specs.View.{nobody, slot_at, note_at, it_at, scatter}
 use Rattle.table.specs.Note.{says_one, one_at, place_is}
-use Rattle.table.specs.Apart.{Fits, get-scatter, alike-scatter, alike-fits, alike-length}
+use Rattle.table.specs.Apart.{Fits, get-scatter, alike-scatter, alike-fits}
 use Rattle.table.specs.Sound.{SoundRow, Sound}
 use Rattle.group.specs.Held.{Below}
 use Rattle.group.specs.Tried.{Tried}
 use Rattle.group.proofs.Rows.{kept-below}
-use Rattle.engine.specs.Rows.{AgainAll, next_row, found, Desk, row_spent, free_row, free_below}
+use Rattle.engine.specs.Rows.{AgainAll, next_row, Desk, row_spent, free_row, free_below}
 use Rattle.engine.specs.Round.{Parts, over, Serves, Rounded}
 use Rattle.engine.proofs.Same.{set_up_same, sound-same, recount_twice}
 use Rattle.engine.proofs.Again.{again_sound}
-use Rattle.engine.proofs.Next.{at_slot, next-rows, found-ready, found_at, found_none}
+use Rattle.engine.proofs.Next.{at_slot, next-rows, found-ready, found_low}
 use Rattle.engine.proofs.Free.{desk, Keeps, keeps-row, spent-used, keeps-all, freed, free_all}
 
 -- what a record at a slot carries, its payload being n bytes long
@@ -42,6 +45,14 @@ carried w parity v s n =
       content = record { timestamp = v.timestamp_recovery; length = v.length_recovery; payload = padded w.p (take n (drop (s * w.p) parity)) };
       size = n;
     }
+
+-- the same as a part of the parity bytes
+pub carried_by : (w : Window) (parity : List ℕ) (v : Record) (s n : ℕ) → s * w.p + n ≤ length parity
+    → record { content = record { timestamp = v.timestamp_recovery; length = v.length_recovery; payload = padded w.p (take (s * w.p + n - s * w.p) (drop (s * w.p) parity)) }; size = length (take (s * w.p + n - s * w.p) (drop (s * w.p) parity)) } ≡ carried w parity v s n
+carried_by w parity v s n h =
+    let e : s * w.p + n - s * w.p ≡ n = omega arith in
+    let l : length (take n (drop (s * w.p) parity)) ≡ n = length-take-le n (drop (s * w.p) parity) (omega (arith, length-drop (s * w.p) parity)) in
+    rw (e, l)
 
 pub round-none : (x : State) → next x ≡ none → x ≡ round x
 unfolding round
@@ -60,29 +71,33 @@ pub head_below : (n : ℕ) (l : List ℕ) → Below n l → length l ≡ 1 → h
 head_below n [] b e = absurd (omega (arith, e))
 head_below n (i ∷ l) b e = b.0
 
--- ---- what was found: m rows, of which r is next
-module _ (w : Window) (based : w.base < 2 ^ width) (x : Parts) (serves : Serves w x) (m : ℕ) (long : length x.rows ≡ m) (r : ℕ) (is : next_row w.base x.rows m ≡ found m r) where
-  next-at : (t : List Record) → Fits t w.k x.rows → (b q : ℕ) → next (scene w (over x t) b q) ≡ at_slot x.rows (found m r)
-  next-at t f b q = next-rows w x serves.sound t f b q ∙ ap (λ (n : ℕ). at_slot x.rows (next_row w.base x.rows n)) long ∙ ap (at_slot x.rows) is
+-- ---- nothing was found
+pub none_found : (w : Window) (x : Parts) → Serves w x → next_row w.base x.rows (length x.rows) ≡ None → Rounded w x (record { window = w; rebuilt = 0; spoilt = 0 }) x
+none_found w x serves is =
+    let rests : (t : List Record) → Fits t w.k x.rows → (b q : ℕ) → next (scene w (over x t) b q) ≡ none = λ t f b q. next-rows w x serves.sound t f b q ∙ ap (at_slot x.rows) is in
+    record {
+      kept = refl;
+      serves = serves;
+      same-slots = refl;
+      small = omega arith;
+      more-present = omega arith;
+      is = λ t f b q. rw (add-zero b, add-zero q) (round-none (scene w (over x t) b q) (rests t f b q));
+      rest = λ _. rests;
+      still = λ _. refl;
+    }
 
-  pub none_found : m ≤ r → Rounded w x (record { window = w; rebuilt = 0; spoilt = 0 }) x
-  none_found h =
-      let rests : (t : List Record) → Fits t w.k x.rows → (b q : ℕ) → next (scene w (over x t) b q) ≡ none = λ t f b q. next-at t f b q ∙ found_none x.rows m r h in
-      record {
-        kept = refl;
-        serves = serves;
-        same-slots = refl;
-        small = omega arith;
-        more-present = omega arith;
-        is = λ t f b q. rw (add-zero b, add-zero q) (round-none (scene w (over x t) b q) (rests t f b q));
-        rest = λ _. rests;
-        still = λ _. refl;
-      }
+-- ---- what was found: r is the row that is next
+module _ (w : Window) (based : w.base < 2 ^ width) (x : Parts) (serves : Serves w x) (r : ℕ) (is : next_row w.base x.rows (length x.rows) ≡ Some r) where
+  next-at : (t : List Record) → Fits t w.k x.rows → (b q : ℕ) → next (scene w (over x t) b q) ≡ some (slot_at x.rows r)
+  next-at t f b q = next-rows w x serves.sound t f b q ∙ ap (at_slot x.rows) is
+
+  pub l : r < length x.rows
+  l = found_low w.base x.rows (length x.rows) r is
 
   -- the row that was found: its record and its slot
-  module _ (l : r < m) (v : Record) (ev : v ≡ it_at x.rows r) (s : ℕ) (es : s ≡ slot_at x.rows r) where
+  module _ (v : Record) (ev : v ≡ it_at x.rows r) (s : ℕ) (es : s ≡ slot_at x.rows r) where
     sound-row : SoundRow w x.marks (get_or x.rows r nobody)
-    sound-row = serves.sound.at r (omega (arith, l, long)) (found-ready w.base x.rows m r is l).0
+    sound-row = serves.sound.at r l (found-ready w.base x.rows (length x.rows) r is).0
 
     pub row_inside : Inside w v.stream v.snbase
     row_inside = rw ev sound-row.inside
@@ -94,7 +109,7 @@ module _ (w : Window) (based : w.base < 2 ^ width) (x : Parts) (serves : Serves 
     size_low = rw ev sound-row.size_low
 
     row_one : says_one (note_at x.rows r) ≡ true
-    row_one = (found-ready w.base x.rows m r is l).1
+    row_one = (found-ready w.base x.rows (length x.rows) r is).1
 
     pub note-high : 2 ≤ note_at x.rows r
     note-high = leb-true 2 (note_at x.rows r) row_one
@@ -113,16 +128,16 @@ module _ (w : Window) (based : w.base < 2 ^ width) (x : Parts) (serves : Serves 
 
     -- of every table the record at the slot is that of the row
     here : (t : List Record) → Fits t w.k x.rows → get_or (scatter x.rows t) s blank ≡ v
-    here t f = ap (λ (q : ℕ). get_or (scatter x.rows t) q blank) es ∙ get-scatter f.apart f.enough r (omega (arith, l, long)) ∙ sym ev
+    here t f = ap (λ (q : ℕ). get_or (scatter x.rows t) q blank) es ∙ get-scatter f.apart f.enough r l ∙ sym ev
 
     next_here : (t : List Record) → Fits t w.k x.rows → (b q : ℕ) → next (scene w (over x t) b q) ≡ some s
-    next_here t f b q = next-at t f b q ∙ found_at x.rows m r l ∙ ap some (sym es)
+    next_here t f b q = next-at t f b q ∙ ap some (sym es)
 
     -- its rebuild was tried
     module _ (i : ℕ) (en₀ : i ≡ one_at (note_at x.rows r)) (media timestamps lengths marks : List ℕ) (ok : Bool) (n : ℕ) (en : n ≡ v.payload_length)
-        (told : Tried w (group w v.stream v.snbase) i (carried w x.parity v s n) ok x.media x.timestamps x.lengths x.marks media timestamps lengths marks) where
+        (c : Recovery) (ec : c ≡ carried w x.parity v s n) (told : Tried w (group w v.stream v.snbase) i c ok x.media x.timestamps x.lengths x.marks media timestamps lengths marks) where
       tried : Tried w (group w v.stream v.snbase) i (carried w x.parity v s v.payload_length) ok x.media x.timestamps x.lengths x.marks media timestamps lengths marks
-      tried = subst (λ (k : ℕ). Tried w (group w v.stream v.snbase) i (carried w x.parity v s k) ok x.media x.timestamps x.lengths x.marks media timestamps lengths marks) en told
+      tried = subst (λ (k : ℕ). Tried w (group w v.stream v.snbase) i (carried w x.parity v s k) ok x.media x.timestamps x.lengths x.marks media timestamps lengths marks) en (subst (λ (k : Recovery). Tried w (group w v.stream v.snbase) i k ok x.media x.timestamps x.lengths x.marks media timestamps lengths marks) ec told)
 
       fit_is : (t : List Record) → Fits t w.k x.rows → (b q : ℕ) → fits_at (scene w (over x t) b q) s ≡ ok
       fit_is t f b q = rw (here t f) (sym tried.fit)
@@ -137,14 +152,14 @@ module _ (w : Window) (based : w.base < 2 ^ width) (x : Parts) (serves : Serves 
 
         keeps₂ : Keeps w x.marks (length x.parity) x.rows (desk window parity hs')
         keeps₂ = subst (λ (d : Desk). Keeps w x.marks (length x.parity) x.rows d) (sym e)
-            (keeps-row w x.marks x.rows (length x.parity) serves.parity-long (desk w x.parity x.rows) r (omega (arith, l, long)) (found-ready w.base x.rows m r is l).0 keeps₁)
+            (keeps-row w x.marks x.rows (length x.parity) serves.parity-long (desk w x.parity x.rows) r l (found-ready w.base x.rows (length x.rows) r is).0 keeps₁)
 
         all₀ : (t : List Record) → Fits t w.k x.rows → (b q : ℕ) → scene window (over y₀ t) (b + 0) (q + 1) ≡ round (scene w (over x t) b q)
         all₀ t f b q =
             let same = tried.same bad in
             rw (add-zero b, same.0, same.1, same.2, same.3)
             (ap (λ (d : Desk). scene d.window (stored x.media x.timestamps x.lengths x.marks d.parity (scatter d.rows t)) b (q + 1)) e
-            ∙ ap count_spoilt (sym (freed w x.marks x.rows (length x.parity) serves.parity-long x.media x.timestamps x.lengths t f b q (desk w x.parity x.rows) keeps₁ r (omega (arith, l, long))) ∙ ap (λ (n : ℕ). release n (scene w (over x t) b q)) (sym es))
+            ∙ ap count_spoilt (sym (freed w x.marks x.rows (length x.parity) serves.parity-long x.media x.timestamps x.lengths t f b q (desk w x.parity x.rows) keeps₁ r l) ∙ ap (λ (n : ℕ). release n (scene w (over x t) b q)) (sym es))
             ∙ round-spoilt (scene w (over x t) b q) s (next_here t f b q) (fit_is t f b q ∙ bad))
 
         pub spoilt-found : Rounded w x (record { window = window; rebuilt = 0; spoilt = 1 }) y₀
@@ -184,8 +199,8 @@ module _ (w : Window) (based : w.base < 2 ^ width) (x : Parts) (serves : Serves 
             subst (λ (k : List ℕ). Sound more k hs) (sym ek) (again_sound more i x.marks x.rows hs was (subst (λ (k : List ℕ). AgainAll more i k x.rows hs) ek again))
 
         -- what is asked of the rows before the release
-        pub low-now : (j : ℕ) → j < m → used (it_at hs j) ≡ true → slot_at hs j < more.k
-        low-now j h u = (sound-now.at j (omega (arith, h, long, alike-length again.alike)) u).slot-low
+        pub low-now : (j : ℕ) → j < length hs → used (it_at hs j) ≡ true → slot_at hs j < more.k
+        low-now j h u = (sound-now.at j h u).slot-low
 
         pub room-now : more.k * more.p ≤ length x.parity
         room-now = rw ew serves.parity-long
@@ -193,15 +208,12 @@ module _ (w : Window) (based : w.base < 2 ^ width) (x : Parts) (serves : Serves 
         keeps-start : Keeps more marks (length x.parity) hs (desk more x.parity hs)
         keeps-start = record { same = refl; present = refl; same-slots = refl; long = refl; sound = sound-now }
 
-        module _ (window : Window) (parity : List ℕ) (hs' : List Row) (e : desk window parity hs' ≡ free_below row_spent m (desk more x.parity hs)) (lm : length media ≡ length x.media) (lt : length timestamps ≡ length x.timestamps) (ll : length lengths ≡ length x.lengths) where
+        module _ (window : Window) (parity : List ℕ) (hs' : List Row) (e : desk window parity hs' ≡ free_below row_spent (length hs) (desk more x.parity hs)) (lm : length media ≡ length x.media) (lt : length timestamps ≡ length x.timestamps) (ll : length lengths ≡ length x.lengths) where
           abbrev y : Parts
           y = record { media = media; timestamps = timestamps; lengths = lengths; marks = marks; parity = parity; rows = hs' }
 
-          length-now : length hs ≡ m
-          length-now = alike-length again.alike ∙ long
-
           keeps : Keeps more marks (length x.parity) hs (desk window parity hs')
-          keeps = subst (λ (d : Desk). Keeps more marks (length x.parity) hs d) (sym e) (keeps-all more marks hs (length x.parity) room-now row_spent spent-used (desk more x.parity hs) m (omega (arith, length-now)) keeps-start)
+          keeps = subst (λ (d : Desk). Keeps more marks (length x.parity) hs d) (sym e) (keeps-all more marks hs (length x.parity) room-now row_spent spent-used (desk more x.parity hs) (length hs) (omega arith) keeps-start)
 
           more-kept : more ≡ recount w more.present more.in_use
           more-kept = rw ew
@@ -212,7 +224,7 @@ module _ (w : Window) (based : w.base < 2 ^ width) (x : Parts) (serves : Serves 
           all : (t : List Record) → Fits t w.k x.rows → (b q : ℕ) → scene window (over y t) (b + 1) (q + 0) ≡ round (scene w (over x t) b q)
           all t f b q =
               let fits : Fits t more.k hs = rw ew (alike-fits again.alike f) in
-              ap (λ (d : Desk). scene d.window (stored media timestamps lengths marks d.parity (scatter d.rows t)) (b + 1) (q + 0)) (e ∙ ap (λ (n : ℕ). free_below row_spent n (desk more x.parity hs)) (sym length-now))
+              ap (λ (d : Desk). scene d.window (stored media timestamps lengths marks d.parity (scatter d.rows t)) (b + 1) (q + 0)) e
               ∙ free_all more marks hs (length x.parity) room-now media timestamps lengths t fits (b + 1) (q + 0) x.parity more refl keeps-start
               ∙ ap release_all (ap (scene more (stored media timestamps lengths marks x.parity (scatter hs t)) (b + 1)) (add-zero q) ∙ rebuilt t f b q)
               ∙ round-some (scene w (over x t) b q) s (next_here t f b q) (fit_is t f b q ∙ good)

@@ -5,7 +5,7 @@ use Prim.Native.Nat.{ℕ}
 use Rattle.window.specs.declared.Window.{Window}
 use Rattle.window.specs.Bounds.{SetUp}
 use Rattle.calls.specs.State.{recount}
-use Rattle.table.specs.View.{Row}
+use Rattle.table.specs.declared.Row.{Row}
 use Rattle.table.specs.Sound.{SoundRow, Sound}
 
 pub set_up_same : (w v : Window) (a b : ℕ) → v ≡ recount w a b → SetUp w → SetUp v

@@ -13,7 +13,8 @@ use Rattle.window.specs.declared.Window.{Window}
 use Rattle.window.specs.Record.{blank}
 use Rattle.window.specs.Order.{used}
 use Rattle.calls.specs.State.{recount}
-use Rattle.table.specs.View.{Row, nobody, slot_at, note_at, it_at, put}
+use Rattle.table.specs.declared.Row.{Row}
+use Rattle.table.specs.View.{nobody, slot_at, note_at, it_at, put}
 use Rattle.table.specs.Fold.{below}
 use Rattle.engine.specs.Rows.{Desk, free_row, free_if}
 use Rattle.engine.proofs.Free.{desk}

@@ -7,7 +7,8 @@ use Rattle.window.specs.Store.{Store, stored}
 use Rattle.window.specs.Bounds.{SetUp}
 use Rattle.calls.specs.State.{scene, recount}
 use Rattle.calls.specs.Settle.{next, round, settle}
-use Rattle.table.specs.View.{Row, slots, scatter}
+use Rattle.table.specs.declared.Row.{Row}
+use Rattle.table.specs.View.{slots, scatter}
 use Rattle.table.specs.Apart.{Fits}
 use Rattle.table.specs.Sound.{Sound}
 use Rattle.engine.specs.declared.Round.{Round}

@@ -1,6 +1,5 @@
 -- What the engine does to the rows of a hand.
-use Rattle.std.specs.Prelude.{◌≡◌, Bool, true, cond, not, ◌&&◌, ◌||◌, List, ℕ, ◌+◌, ◌*◌, ◌-◌, ◌<◌, ltb, length, get_or, set, replicate}
-use Rattle.std.proofs.Math.Option.{Option, none, some}
+use Rattle.std.specs.Prelude.{◌≡◌, Option, Some, None, Bool, true, cond, not, ◌&&◌, ◌||◌, List, ℕ, ◌+◌, ◌*◌, ◌-◌, ◌<◌, ltb, length, get_or, set, replicate}
 use Rattle.std.proofs.Math.Seq.{paste}
 use Rattle.sequence.specs.Wrap.{ahead}
 use Rattle.window.specs.declared.Window.{Window}
@@ -9,7 +8,8 @@ use Rattle.window.specs.Limits.{width}
 use Rattle.window.specs.Order.{used}
 use Rattle.window.specs.Plain.{Inside}
 use Rattle.calls.specs.State.{recount}
-use Rattle.table.specs.View.{Row, nobody, slot_at, note_at, it_at, put}
+use Rattle.table.specs.declared.Row.{Row}
+use Rattle.table.specs.View.{nobody, slot_at, note_at, it_at, put}
 use Rattle.table.specs.Note.{says_none, says_one}
 use Rattle.table.specs.Apart.{Alike}
 use Rattle.table.specs.Fold.{below}
@@ -49,20 +49,22 @@ row_rank base hs i = ahead width base (it_at hs i).snbase * 2 + (it_at hs i).str
 
 -- row i where it is ready and ranks below the best so far, else that
 abbrev pub better_row : (base : ℕ) → List Row → ℕ → Option ℕ → Option ℕ
-better_row base hs i none = cond (row_ready hs i) (some i) none
-better_row base hs i (some q) = cond (row_ready hs i && ltb (row_rank base hs i) (row_rank base hs q)) (some i) (some q)
+better_row base hs i None = cond (row_ready hs i) (Some i) None
+better_row base hs i (Some q) = cond (row_ready hs i && ltb (row_rank base hs i) (row_rank base hs q)) (Some i) (Some q)
 
 -- the ready row of lowest rank among the first n
 abbrev pub next_row : (base : ℕ) → List Row → ℕ → Option ℕ
-next_row base hs n = below (better_row base hs) n none
+next_row base hs n = below (better_row base hs) n None
 
--- an index below m is a find, any other is none
-abbrev pub found : (m at : ℕ) → Option ℕ
-found m at = cond (ltb at m) (some at) none
+-- the row of the best so far
+abbrev pub row_of : Option Best → Option ℕ
+row_of None = None
+row_of (Some b) = Some b.at
 
 -- row i where it is ready and ranks below the best so far, if there is one
-abbrev pub pick : Best → (m i rank : ℕ) → Bool → Best
-pick b m i rank ready = cond (ready && (not (ltb b.at m) || ltb rank b.rank)) (record { at = i; rank = rank }) b
+abbrev pub pick : Option Best → (i rank : ℕ) → Bool → Option Best
+pick None i rank ready = cond ready (Some (record { at = i; rank = rank })) None
+pick (Some b) i rank ready = cond (ready && ltb rank b.rank) (Some (record { at = i; rank = rank })) (Some b)
 
 -- ---- releasing what is spent
 

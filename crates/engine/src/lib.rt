@@ -2,7 +2,7 @@
 
 // Settling: parity in hand rebuilds until none of it has exactly one packet missing. Whether none, one or more of its group are
 // missing is noted in each row, so a round looks at the rows alone, and again at the groups that have the rebuilt packet.
-ghost use Rattle.std.specs.Prelude.{◌≡◌, true, cond, ℕ, ◌+◌, ◌*◌, ◌-◌, ◌≤◌, ◌<◌, eqb, length};
+ghost use Rattle.std.specs.Prelude.{◌≡◌, true, cond, ℕ, ◌+◌, ◌*◌, ◌-◌, ◌≤◌, ◌<◌, eqb, length, IfSome};
 ghost use Rattle.sequence.specs.Lists.{count};
 ghost use Rattle.sequence.specs.Line.{line};
 ghost use Rattle.sequence.specs.Wrap.{ahead};
@@ -12,11 +12,13 @@ ghost use Rattle.window.specs.Group.{group};
 ghost use Rattle.window.specs.Order.{used};
 ghost use Rattle.window.specs.Plain.{Inside};
 ghost use Rattle.calls.specs.State.{recount};
-ghost use Rattle.table.specs.View.{hand, slot_at, note_at, it_at};
+ghost use Rattle.table.specs.View.{slot_at, note_at, it_at};
 ghost use Rattle.table.specs.Note.{one_at};
-ghost use Rattle.engine.specs.Rows.{InsideRows, AgainAt, AgainAll, row_ready, next_row, found, pick, row_spent, free_row, free_if, free_below};
+ghost use Rattle.engine.specs.Rows.{InsideRows, AgainAt, AgainAll, row_ready, next_row, row_of, pick, row_spent, free_row, free_if, free_below};
 ghost use Rattle.engine.specs.Round.{Serves, Rounded, Settled};
 
+use group::Recovery;
+use table::Row;
 use window::Window;
 
 // ---- one packet more: the rows that waited for it
@@ -44,11 +46,11 @@ fn is_member(w: Window, stream: u8, snbase: u16, i: usize) -> bool
 }
 
 // Position i is no longer missing: row j, if it is in use and its group has it, is looked at again.
-fn look_again_at(w: Window, i: usize, marks: &[u8], rows: &mut [u32], j: usize)
-    requires { SetUp w × (w.n ≤ length marks.now) × (j < length (hand rows.old)) × InsideRows w (hand rows.old) }
-    ensures { AgainAt w i marks.now j (hand rows.old) (hand rows.new) }
+fn look_again_at(w: Window, i: usize, marks: &[u8], rows: &mut [Row], j: usize)
+    requires { SetUp w × (w.n ≤ length marks.now) × (j < length rows.old) × InsideRows w rows.old }
+    ensures { AgainAt w i marks.now j rows.old rows.new }
 {
-    let v = table::record_at(rows, j);
+    let v = rows[j].it;
     if v.in_use != 1 {
         return;
     }
@@ -56,51 +58,47 @@ fn look_again_at(w: Window, i: usize, marks: &[u8], rows: &mut [u32], j: usize)
         return;
     }
     let found = group::look(w, marks, v.stream, v.snbase);
-    let note = table::note_of(found);
-    table::put_note(rows, j, note);
+    rows[j].note = table::note_of(found);
 }
 
-// Position i is no longer missing: each of the m rows whose group has it is looked at again.
-pub fn look_again(w: Window, i: usize, marks: &[u8], rows: &mut [u32], m: usize)
-    requires { SetUp w × (w.n ≤ length marks.now) × (length (hand rows.old) ≡ m) × InsideRows w (hand rows.old) }
-    ensures { AgainAll w i marks.now (hand rows.old) (hand rows.new) }
+// Position i is no longer missing: each row whose group has it is looked at again.
+pub fn look_again(w: Window, i: usize, marks: &[u8], rows: &mut [Row])
+    requires { SetUp w × (w.n ≤ length marks.now) × InsideRows w rows.old }
+    ensures { AgainAll w i marks.now rows.old rows.new }
 {
-    let mut j = 0;
-    while j < m {
+    for j in 0..rows.len() {
         look_again_at(w, i, marks, rows, j);
-        j += 1;
     }
 }
 
 // ---- which row is next
 
 // A row in use with one packet missing.
-fn row_ready(rows: &[u32], i: usize) -> bool
-    requires { i < length (hand rows.now) }
-    ensures { result ≡ row_ready (hand rows.now) i }
+fn row_ready(rows: &[Row], i: usize) -> bool
+    requires { i < length rows.now }
+    ensures { result ≡ row_ready rows.now i }
 {
-    let v = table::record_at(rows, i);
-    (v.in_use == 1) & (table::NOTE_ONE <= table::note_at(rows, i))
+    (rows[i].it.in_use == 1) & (table::NOTE_ONE <= rows[i].note)
 }
 
 // The position of the one packet that is missing of the group of row i.
-fn row_missing(rows: &[u32], i: usize) -> usize
-    requires { (i < length (hand rows.now)) × (2 ≤ note_at (hand rows.now) i) }
-    ensures { result ≡ one_at (note_at (hand rows.now) i) }
+fn row_missing(rows: &[Row], i: usize) -> usize
+    requires { (i < length rows.now) × (2 ≤ note_at rows.now i) }
+    ensures { result ≡ one_at (note_at rows.now i) }
 {
-    table::note_at(rows, i) - table::NOTE_ONE
+    (rows[i].note - table::NOTE_ONE) as usize
 }
 
 // The order of rebuilding: by the position of SNBase, a column before a row.
-fn row_rank(base: u16, rows: &[u32], i: usize) -> usize
-    requires { i < length (hand rows.now) }
-    ensures { result ≡ ahead width base (it_at (hand rows.now) i).snbase * 2 + (it_at (hand rows.now) i).stream }
+fn row_rank(base: u16, rows: &[Row], i: usize) -> usize
+    requires { i < length rows.now }
+    ensures { result ≡ ahead width base (it_at rows.now i).snbase * 2 + (it_at rows.now i).stream }
 {
-    let v = table::record_at(rows, i);
+    let v = rows[i].it;
     sequence::position(base, v.snbase) as usize * 2 + v.stream as usize
 }
 
-// The best row so far: none where `at` is not below m.
+// The best row so far.
 #[derive(Clone, Copy)]
 pub struct Best {
     pub at: usize,
@@ -108,31 +106,35 @@ pub struct Best {
 }
 
 // Row i where it is ready and ranks below the best so far.
-fn better(b: Best, m: usize, i: usize, rank: usize, ready: bool) -> Best
-    ensures { result ≡ pick b m i rank ready }
+fn better(best: Option<Best>, i: usize, rank: usize, ready: bool) -> Option<Best>
+    ensures { result ≡ pick best i rank ready }
 {
-    if ready & (!(b.at < m) | (rank < b.rank)) {
-        Best { at: i, rank }
-    } else {
-        b
+    match best {
+        None if ready => Some(Best { at: i, rank }),
+        Some(b) if ready & (rank < b.rank) => Some(Best { at: i, rank }),
+        _ => best,
     }
 }
 
-// The row that rebuilds next; m where none is ready.
-fn next_ready(w: Window, rows: &[u32], m: usize) -> usize
-    requires { length (hand rows.now) ≡ m }
-    ensures { next_row w.base (hand rows.now) m ≡ found m result }
+// The row of the best so far.
+fn place_of(best: Option<Best>) -> Option<usize>
+    ensures { result ≡ row_of best }
 {
-    let base = w.base;
-    let mut best = Best { at: m, rank: 0 };
-    let mut i = 0;
-    while i < m {
+    best.map(|b| b.at)
+}
+
+// The row that rebuilds next, if one is ready.
+fn next_ready(w: Window, rows: &[Row]) -> Option<usize>
+    ensures next { result ≡ next_row w.base rows.now (length rows.now) }
+    ensures low { IfSome result (λ r. r < length rows.now) }
+{
+    let mut best = None;
+    for i in 0..rows.len() {
         let ready = row_ready(rows, i);
-        let rank = row_rank(base, rows, i);
-        best = better(best, m, i, rank, ready);
-        i += 1;
+        let rank = row_rank(w.base, rows, i);
+        best = better(best, i, rank, ready);
     }
-    best.at
+    place_of(best)
 }
 
 // ---- releasing what is spent
@@ -142,62 +144,45 @@ pub fn recounted(w: Window, present: usize, in_use: usize) -> Window
     ensures { result ≡ recount w present in_use }
 {
     Window {
-        base: w.base,
-        ssrc: w.ssrc,
-        l: w.l,
-        d: w.d,
-        p: w.p,
-        n: w.n,
-        k: w.k,
         present,
         in_use,
+        ..w
     }
-}
-
-// One less, but not below 0.
-fn one_less(x: usize) -> usize
-    ensures { result ≡ x - 1 }
-{
-    if x == 0 { 0 } else { x - 1 }
 }
 
 // The record of row i and its payload are set to zero.
-pub fn free_row(w: Window, i: usize, parity: &mut [u8], rows: &mut [u32]) -> Window
-    requires { (i < length (hand rows.old)) × (slot_at (hand rows.old) i < w.k) × (w.k * w.p ≤ length parity.old) }
-    ensures { record { window = result; parity = parity.new; rows = hand rows.new } ≡ free_row i (record { window = w; parity = parity.old; rows = hand rows.old }) }
+pub fn free_row(w: Window, i: usize, parity: &mut [u8], rows: &mut [Row]) -> Window
+    requires { (i < length rows.old) × (slot_at rows.old i < w.k) × (w.k * w.p ≤ length parity.old) }
+    ensures { record { window = result; parity = parity.new; rows = rows.new } ≡ free_row i (record { window = w; parity = parity.old; rows = rows.old }) }
 {
-    let s = table::slot_at(rows, i);
-    xor::zero_at(parity, s * w.p, w.p);
-    table::put_record(rows, i, window::free_record());
-    recounted(w, w.present, one_less(w.in_use))
+    let at = rows[i].slot as usize * w.p;
+    parity[at..at + w.p].fill(0);
+    rows[i].it = window::free_record();
+    recounted(w, w.present, w.in_use.saturating_sub(1))
 }
 
 // Row i is released if it is in use and none of its group is missing.
-fn release_row(w: Window, i: usize, parity: &mut [u8], rows: &mut [u32]) -> Window
-    requires { (i < length (hand rows.old)) × (used (it_at (hand rows.old) i) ≡ true → slot_at (hand rows.old) i < w.k) × (w.k * w.p ≤ length parity.old) }
-    ensures { record { window = result; parity = parity.new; rows = hand rows.new } ≡ free_if row_spent i (record { window = w; parity = parity.old; rows = hand rows.old }) }
+fn release_row(w: Window, i: usize, parity: &mut [u8], rows: &mut [Row]) -> Window
+    requires { (i < length rows.old) × (used (it_at rows.old i) ≡ true → slot_at rows.old i < w.k) × (w.k * w.p ≤ length parity.old) }
+    ensures { record { window = result; parity = parity.new; rows = rows.new } ≡ free_if row_spent i (record { window = w; parity = parity.old; rows = rows.old }) }
 {
-    let v = table::record_at(rows, i);
-    if v.in_use != 1 {
+    if rows[i].it.in_use != 1 {
         return w;
     }
-    if table::note_at(rows, i) != table::NOTE_NONE {
+    if rows[i].note != table::NOTE_NONE {
         return w;
     }
     free_row(w, i, parity, rows)
 }
 
-// Every spent row is released. The hand has m rows.
-fn release_all(w: Window, parity: &mut [u8], rows: &mut [u32], m: usize) -> Window
-    requires { (length (hand rows.old) ≡ m) × ((i : ℕ) → i < m → used (it_at (hand rows.old) i) ≡ true → slot_at (hand rows.old) i < w.k) × (w.k * w.p ≤ length parity.old) }
-    ensures { record { window = result; parity = parity.new; rows = hand rows.new } ≡ free_below row_spent m (record { window = w; parity = parity.old; rows = hand rows.old }) }
+// Every spent row is released.
+fn release_all(w: Window, parity: &mut [u8], rows: &mut [Row]) -> Window
+    requires { ((i : ℕ) → i < length rows.old → used (it_at rows.old i) ≡ true → slot_at rows.old i < w.k) × (w.k * w.p ≤ length parity.old) }
+    ensures { record { window = result; parity = parity.new; rows = rows.new } ≡ free_below row_spent (length rows.old) (record { window = w; parity = parity.old; rows = rows.old }) }
 {
     let mut v = w;
-    let mut i = 0;
-    while i < m {
-        let next = release_row(v, i, parity, rows);
-        v = next;
-        i += 1;
+    for i in 0..rows.len() {
+        v = release_row(v, i, parity, rows);
     }
     v
 }
@@ -221,39 +206,30 @@ fn one_round(
     lengths: &mut [u16],
     marks: &mut [u8],
     parity: &mut [u8],
-    rows: &mut [u32],
-    m: usize,
+    rows: &mut [Row],
 ) -> Round
-    requires { Serves w (record { media = media.old; timestamps = timestamps.old; lengths = lengths.old; marks = marks.old; parity = parity.old; rows = hand rows.old }) × (length (hand rows.old) ≡ m) × (w.present < most_counted) }
-    ensures { Rounded w (record { media = media.old; timestamps = timestamps.old; lengths = lengths.old; marks = marks.old; parity = parity.old; rows = hand rows.old }) result
-        (record { media = media.new; timestamps = timestamps.new; lengths = lengths.new; marks = marks.new; parity = parity.new; rows = hand rows.new }) }
+    requires { Serves w (record { media = media.old; timestamps = timestamps.old; lengths = lengths.old; marks = marks.old; parity = parity.old; rows = rows.old }) × (w.present < most_counted) }
+    ensures { Rounded w (record { media = media.old; timestamps = timestamps.old; lengths = lengths.old; marks = marks.old; parity = parity.old; rows = rows.old }) result
+        (record { media = media.new; timestamps = timestamps.new; lengths = lengths.new; marks = marks.new; parity = parity.new; rows = rows.new }) }
 {
-    let r = next_ready(w, rows, m);
-    if m <= r {
+    let Some(r) = next_ready(w, rows) else {
         return Round {
             window: w,
             rebuilt: 0,
             spoilt: 0,
         };
-    }
-    let v = table::record_at(rows, r);
-    let s = table::slot_at(rows, r);
-    let p = w.p;
+    };
+    let v = rows[r].it;
+    let at = rows[r].slot as usize * w.p;
+    let size = rtp::wide(v.payload_length);
     let i = row_missing(rows, r);
+    let recovery = Recovery {
+        timestamp: v.timestamp_recovery,
+        length: v.length_recovery,
+        payload: &parity[at..at + size],
+    };
     let good = group::rebuild_at(
-        w,
-        v.stream,
-        v.snbase,
-        i,
-        v.timestamp_recovery,
-        v.length_recovery,
-        rtp::wide(v.payload_length),
-        parity,
-        s * p,
-        media,
-        timestamps,
-        lengths,
-        marks,
+        w, v.stream, v.snbase, i, recovery, media, timestamps, lengths, marks,
     );
     if !good {
         let window = free_row(w, r, parity, rows);
@@ -264,8 +240,8 @@ fn one_round(
         };
     }
     let more = recounted(w, w.present + 1, w.in_use);
-    look_again(more, i, marks, rows, m);
-    let window = release_all(more, parity, rows, m);
+    look_again(more, i, marks, rows);
+    let window = release_all(more, parity, rows);
     Round {
         window,
         rebuilt: 1,
@@ -273,7 +249,7 @@ fn one_round(
     }
 }
 
-// Rounds until no row is ready. The hand has m rows.
+// Rounds until no row is ready: each rebuilds a packet or releases a spoilt row, so there are no more than records in use.
 pub fn settle(
     w: Window,
     media: &mut [u8],
@@ -281,30 +257,23 @@ pub fn settle(
     lengths: &mut [u16],
     marks: &mut [u8],
     parity: &mut [u8],
-    rows: &mut [u32],
-    m: usize,
+    rows: &mut [Row],
 ) -> Round
-    requires { Serves w (record { media = media.old; timestamps = timestamps.old; lengths = lengths.old; marks = marks.old; parity = parity.old; rows = hand rows.old }) × (length (hand rows.old) ≡ m) × (w.present + w.in_use ≤ most_counted) }
-    ensures { Settled w (record { media = media.old; timestamps = timestamps.old; lengths = lengths.old; marks = marks.old; parity = parity.old; rows = hand rows.old }) result
-        (record { media = media.new; timestamps = timestamps.new; lengths = lengths.new; marks = marks.new; parity = parity.new; rows = hand rows.new }) }
+    requires { Serves w (record { media = media.old; timestamps = timestamps.old; lengths = lengths.old; marks = marks.old; parity = parity.old; rows = rows.old }) × (w.present + w.in_use ≤ most_counted) }
+    ensures { Settled w (record { media = media.old; timestamps = timestamps.old; lengths = lengths.old; marks = marks.old; parity = parity.old; rows = rows.old }) result
+        (record { media = media.new; timestamps = timestamps.new; lengths = lengths.new; marks = marks.new; parity = parity.new; rows = rows.new }) }
 {
     let mut v = w;
     let mut rebuilt = 0;
     let mut spoilt = 0;
-    let mut left = w.in_use;
-    while 0 < left {
-        let r = one_round(v, media, timestamps, lengths, marks, parity, rows, m);
+    for _round in 0..w.in_use {
+        let r = one_round(v, media, timestamps, lengths, marks, parity, rows);
         v = r.window;
         if r.rebuilt + r.spoilt == 0 {
-            return Round {
-                window: v,
-                rebuilt,
-                spoilt,
-            };
+            break;
         }
         rebuilt += r.rebuilt;
         spoilt += r.spoilt;
-        left -= 1;
     }
     Round {
         window: v,

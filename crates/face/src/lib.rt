@@ -2,19 +2,20 @@
 
 // What stands between the exported calls and the receiver: a hand is gathered of the lent table, a method of the receiver works
 // on it, and its rows go back where they changed; the answer becomes document 01's number and count.
-ghost use Rattle.std.specs.Prelude.{◌≡◌, cond, List, ◌+◌, ◌*◌, ◌≤◌, leb, length};
+ghost use Rattle.std.specs.Prelude.{◌≡◌, cond, List, ◌<◌, ◌≤◌, length, IfSome, IfNone};
 ghost use Rattle.window.specs.declared.Record.{Record};
 ghost use Rattle.window.specs.Store.{stored};
-ghost use Rattle.table.specs.View.{row_words};
-ghost use Rattle.rtp.specs.Fec.{column, row};
+ghost use Rattle.table.specs.Gather.{gathered};
+ghost use Rattle.answer.specs.Refused.{answer_of};
 ghost use Rattle.calls.specs.Call.{asked, wiped, opened, offered_media, offered_parity, read_out, wrote_parity};
 ghost use Rattle.face.specs.Reply.{numbered, replied, filled};
 ghost use Rattle.calls.specs.Move.{moved};
-ghost use Rattle.face.specs.Done.{reached, few_records, few_words, all_words, Done, Given, Carries};
+ghost use Rattle.face.specs.Done.{reached, Lent, Done, Given, Carries};
 
-use answer::Answer;
-use receiver::Receiver;
-use window::Window;
+use answer::{Counts, Refusal};
+use receiver::{Receiver, Step};
+use table::Row;
+use window::{Record, StoreView, Window};
 
 // An answer by document 01's number and counts, and the next window value.
 #[repr(C)]
@@ -37,45 +38,23 @@ pub struct Finished {
 pub fn reach(len: usize, k: usize) -> usize
     ensures { result ≡ reached len k }
 {
-    if len < k {
-        if window::MOST_RECORDS < len {
-            return window::MOST_RECORDS;
-        }
-        return len;
-    }
-    if window::MOST_RECORDS < k {
-        return window::MOST_RECORDS;
-    }
-    k
+    len.min(k).min(window::MOST_RECORDS)
 }
 
-// Most records of a small hand, which most calls can do with.
-pub const FEW: usize = 15;
-
-// A small hand is enough for m records.
-pub fn enough(m: usize) -> bool
-    ensures { result ≡ leb m few_records }
+// The records in use become the first of some rows, with room for one more behind them; none where they are too many for that.
+pub fn gather(records: &[Record], k: usize, rows: &mut [Row]) -> Option<usize>
+    requires { 0 < length rows.old }
+    ensures some { IfSome result (λ m. (m < length rows.new) × Lent (length records.now) k m rows.new records.now) }
+    ensures none { IfNone result (length rows.new ≤ length (gathered (reached (length records.now) k) records.now)) }
 {
-    m <= FEW
-}
-
-// The words of a small hand, with one row more, all zero.
-pub fn few_words() -> [u32; 64]
-    ensures { length result ≡ few_words }
-{
-    [0u32; 64]
-}
-
-// The words of as many rows as a window may have records, and one more, all zero.
-pub fn all_words() -> [u32; 516]
-    ensures { length result ≡ all_words }
-{
-    [0u32; 516]
+    let room = rows.len() - 1;
+    let hand = &mut rows[..room];
+    table::gather(records, reach(records.len(), k), hand)
 }
 
 // The answer as number and counts.
-fn by_number(answer: Answer, window: Window) -> Reply
-    ensures { result ≡ numbered answer window }
+fn by_number(answer: Result<Counts, Refusal>, window: Window) -> Reply
+    ensures { result ≡ numbered (answer_of answer) window }
 {
     Reply {
         number: answer::number(answer) as u32,
@@ -86,14 +65,13 @@ fn by_number(answer: Answer, window: Window) -> Reply
 }
 
 // The reply, and how many rows go back: none where nothing changed.
-fn finish(answer: Answer, window: Window, rows: usize, changed: bool) -> Finished
-    ensures { (result.reply ≡ numbered answer window) × (result.rows ≡ cond changed rows 0) }
+fn finish(step: Step) -> Finished
+    ensures { (result.reply ≡ numbered (answer_of step.answer) step.receiver.window) × (result.rows ≡ cond step.changed step.rows 0) }
 {
-    let reply = by_number(answer, window);
-    if !changed {
-        return Finished { reply, rows: 0 };
+    Finished {
+        reply: by_number(step.answer, step.receiver.window),
+        rows: if step.changed { step.rows } else { 0 },
     }
-    Finished { reply, rows }
 }
 
 // A window is opened; how many records are to be set free. The table has len records.
@@ -119,12 +97,8 @@ pub fn open(
     let r = Receiver::open(
         base, ssrc, l, d, p, n, k, media, timestamps, lengths, marks, parity, len,
     );
-    let answer = r.answer;
-    let opened = r.receiver;
-    let window = opened.window;
-    let reply = by_number(answer, window);
     Finished {
-        reply,
+        reply: by_number(r.answer, r.receiver.window),
         rows: r.records,
     }
 }
@@ -138,165 +112,82 @@ pub fn media(
     lengths: &mut [u16],
     marks: &mut [u8],
     parity: &mut [u8],
-    words: &mut [u32],
+    rows: &mut [Row],
     m: usize,
     len: usize,
 ) -> Finished
-    requires { (m + 1) * row_words ≤ length words.old }
-    ensures { Done (λ s. replied (offered_media w datagram.now s)) len w.k m media.old timestamps.old lengths.old marks.old parity.old words.old
-        media.new timestamps.new lengths.new marks.new parity.new words.new result }
+    requires { m < length rows.old }
+    ensures { Done (λ s. replied (offered_media w datagram.now s)) len w.k m media.old timestamps.old lengths.old marks.old parity.old rows.old
+        media.new timestamps.new lengths.new marks.new parity.new rows.new result }
 {
     let receiver = Receiver { window: w };
-    let r = receiver.media(
-        datagram, media, timestamps, lengths, marks, parity, words, m, len,
-    );
-    let answer = r.answer;
-    let next = r.receiver;
-    let window = next.window;
-    finish(answer, window, r.rows, r.changed)
+    finish(receiver.media(
+        datagram, media, timestamps, lengths, marks, parity, rows, m, len,
+    ))
 }
 
-// A column parity datagram is offered.
-pub fn column(
+// A parity datagram is offered on the port of a stream.
+pub fn parity(
     w: Window,
+    stream: u8,
     datagram: &[u8],
     media: &mut [u8],
     timestamps: &mut [u32],
     lengths: &mut [u16],
     marks: &mut [u8],
     parity: &mut [u8],
-    words: &mut [u32],
+    rows: &mut [Row],
     m: usize,
     len: usize,
 ) -> Finished
-    requires { (m + 1) * row_words ≤ length words.old }
-    ensures { Done (λ s. replied (offered_parity column w datagram.now s)) len w.k m media.old timestamps.old lengths.old marks.old parity.old words.old
-        media.new timestamps.new lengths.new marks.new parity.new words.new result }
+    requires { m < length rows.old }
+    ensures { Done (λ s. replied (offered_parity stream w datagram.now s)) len w.k m media.old timestamps.old lengths.old marks.old parity.old rows.old
+        media.new timestamps.new lengths.new marks.new parity.new rows.new result }
 {
-    let receiver = Receiver { window: w };
-    let r = receiver.column(
-        datagram, media, timestamps, lengths, marks, parity, words, m, len,
-    );
-    let answer = r.answer;
-    let next = r.receiver;
-    let window = next.window;
-    finish(answer, window, r.rows, r.changed)
-}
-
-// A row parity datagram is offered.
-pub fn row(
-    w: Window,
-    datagram: &[u8],
-    media: &mut [u8],
-    timestamps: &mut [u32],
-    lengths: &mut [u16],
-    marks: &mut [u8],
-    parity: &mut [u8],
-    words: &mut [u32],
-    m: usize,
-    len: usize,
-) -> Finished
-    requires { (m + 1) * row_words ≤ length words.old }
-    ensures { Done (λ s. replied (offered_parity row w datagram.now s)) len w.k m media.old timestamps.old lengths.old marks.old parity.old words.old
-        media.new timestamps.new lengths.new marks.new parity.new words.new result }
-{
-    let receiver = Receiver { window: w };
-    let r = receiver.row(
-        datagram, media, timestamps, lengths, marks, parity, words, m, len,
-    );
-    let answer = r.answer;
-    let next = r.receiver;
-    let window = next.window;
-    finish(answer, window, r.rows, r.changed)
+    finish(receiver::offer_parity(
+        w, stream, datagram, media, timestamps, lengths, marks, parity, rows, m, len,
+    ))
 }
 
 // The packet of a number is read out.
 pub fn read(
     w: Window,
     number: u16,
-    media: &[u8],
-    timestamps: &[u32],
-    lengths: &[u16],
-    marks: &[u8],
-    parity: &[u8],
-    words: &mut [u32],
+    store: StoreView,
+    rows: &mut [Row],
     m: usize,
     len: usize,
     out: &mut [u8],
 ) -> Reply
-    requires { (m + 1) * row_words ≤ length words.old }
-    ensures { Given (λ s o. filled (read_out w number s o)) len w.k m media.now timestamps.now lengths.now marks.now parity.now words.old out.old out.new result }
+    requires { m < length rows.old }
+    ensures { Given (λ s o. filled (read_out w number s o)) len w.k m store.entry rows.old out.old out.new result }
 {
     let receiver = Receiver { window: w };
-    let r = receiver.read(
-        number, media, timestamps, lengths, marks, parity, words, m, len, out,
-    );
-    let answer = r.answer;
-    let next = r.receiver;
-    let window = next.window;
-    by_number(answer, window)
+    let r = receiver.read(number, store, rows, m, len, out);
+    by_number(r.answer, r.receiver.window)
 }
 
-// The parity packet of a column is written.
-pub fn write_column(
+// The parity packet of a group of a stream is written.
+pub fn write_parity(
     w: Window,
+    stream: u8,
     snbase: u16,
     sequence: u16,
     timestamp: u32,
     ssrc: u32,
-    media: &[u8],
-    timestamps: &[u32],
-    lengths: &[u16],
-    marks: &[u8],
-    parity: &[u8],
-    words: &mut [u32],
+    store: StoreView,
+    rows: &mut [Row],
     m: usize,
     len: usize,
     out: &mut [u8],
 ) -> Reply
-    requires { (m + 1) * row_words ≤ length words.old }
-    ensures { Given (λ s o. filled (wrote_parity column w snbase (record { sequence = sequence; timestamp = timestamp; ssrc = ssrc }) s o)) len w.k m media.now timestamps.now lengths.now marks.now parity.now words.old out.old out.new result }
+    requires { (m < length rows.old) × (stream ≤ 1) }
+    ensures { Given (λ s o. filled (wrote_parity stream w snbase (record { sequence = sequence; timestamp = timestamp; ssrc = ssrc }) s o)) len w.k m store.entry rows.old out.old out.new result }
 {
-    let receiver = Receiver { window: w };
-    let r = receiver.write_column(
-        snbase, sequence, timestamp, ssrc, media, timestamps, lengths, marks, parity, words, m,
-        len, out,
+    let r = receiver::write_parity(
+        stream, w, snbase, sequence, timestamp, ssrc, store, rows, m, len, out,
     );
-    let answer = r.answer;
-    let next = r.receiver;
-    let window = next.window;
-    by_number(answer, window)
-}
-
-// The parity packet of a row is written.
-pub fn write_row(
-    w: Window,
-    snbase: u16,
-    sequence: u16,
-    timestamp: u32,
-    ssrc: u32,
-    media: &[u8],
-    timestamps: &[u32],
-    lengths: &[u16],
-    marks: &[u8],
-    parity: &[u8],
-    words: &mut [u32],
-    m: usize,
-    len: usize,
-    out: &mut [u8],
-) -> Reply
-    requires { (m + 1) * row_words ≤ length words.old }
-    ensures { Given (λ s o. filled (wrote_parity row w snbase (record { sequence = sequence; timestamp = timestamp; ssrc = ssrc }) s o)) len w.k m media.now timestamps.now lengths.now marks.now parity.now words.old out.old out.new result }
-{
-    let receiver = Receiver { window: w };
-    let r = receiver.write_row(
-        snbase, sequence, timestamp, ssrc, media, timestamps, lengths, marks, parity, words, m,
-        len, out,
-    );
-    let answer = r.answer;
-    let next = r.receiver;
-    let window = next.window;
-    by_number(answer, window)
+    by_number(r.answer, r.receiver.window)
 }
 
 // The base advances by a number of positions.
@@ -308,22 +199,18 @@ pub fn advance(
     lengths: &mut [u16],
     marks: &mut [u8],
     parity: &mut [u8],
-    words: &mut [u32],
+    rows: &mut [Row],
     m: usize,
     len: usize,
     out: &mut [u8],
     sizes: &mut [u16],
 ) -> Finished
-    requires { (m + 1) * row_words ≤ length words.old }
-    ensures { Carries (λ s. moved w by s out.old sizes.old) len w.k m media.old timestamps.old lengths.old marks.old parity.old words.old
-        media.new timestamps.new lengths.new marks.new parity.new words.new out.new sizes.new result }
+    requires { m < length rows.old }
+    ensures { Carries (λ s. moved w by s out.old sizes.old) len w.k m media.old timestamps.old lengths.old marks.old parity.old rows.old
+        media.new timestamps.new lengths.new marks.new parity.new rows.new out.new sizes.new result }
 {
     let receiver = Receiver { window: w };
-    let r = receiver.advance(
-        by, media, timestamps, lengths, marks, parity, words, m, len, out, sizes,
-    );
-    let answer = r.answer;
-    let next = r.receiver;
-    let window = next.window;
-    finish(answer, window, r.rows, r.changed)
+    finish(receiver.advance(
+        by, media, timestamps, lengths, marks, parity, rows, m, len, out, sizes,
+    ))
 }

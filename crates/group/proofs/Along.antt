@@ -1,13 +1,6 @@
 -- The members one after another: each is the wrapping sum of the one before and Offset, and those of a group are its positions. Assumes nothing.
-use mathlib.Core.Path.{◌≡◌, sym, ap, ◌∙◌}
-use mathlib.Core.Bool.{Bool, true, false, cond}
-use mathlib.Core.List.{List, [], ◌∷◌, ◌++◌, append-nil, map-map}
-use Prim.Native.Nat.{ℕ, ◌+◌, ◌*◌, ◌%◌, ◌^◌, ◌<◌, ◌≤◌}
-use native.Mathlib.Nat.{mod-eq_of_lt}
-use native.Mathlib.Numerals.{add-one}
-use native.Mathlib.Omega.{arith}
-use lib.ListN.{length, take, set}
-use lib.Seq.{take-suc-set}
+use Rattle.std.proofs.Common.{◌≡◌, sym, ap, ◌∙◌, Bool, true, false, cond, List, [], ◌∷◌, ◌++◌, append-nil, ℕ, ◌+◌, ◌*◌, ◌%◌, ◌^◌, ◌<◌, ◌≤◌, mod-eq_of_lt, add-one, arith, length, take, set, take-suc-set}
+use Rattle.std.proofs.lemmas.Simd.{map-map}
 use Rattle.sequence.specs.Lists.{up_to, keep}
 use Rattle.sequence.proofs.Lists.{keep_append, map-append}
 use Rattle.sequence.specs.Wrap.{ahead, member}

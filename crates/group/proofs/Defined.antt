@@ -1,14 +1,10 @@
 -- The recovery that a whole group defines, beside one that is given: as far as the longest payload reaches, past which all is zero. Assumes nothing.
-use mathlib.Core.Path.{◌≡◌, refl, sym, ap, ap₂, ◌∙◌}
-use mathlib.Core.Bool.{Bool, true, false, not, ◌&&◌, ◌||◌, and-false, and-true, true≢false, false≢true}
-use mathlib.Core.List.{List, [], ◌∷◌, map}
-use Prim.Native.Nat.{ℕ, ◌+◌, ◌*◌, ◌≤◌}
-use native.Mathlib.Omega.{arith}
-use lib.Bits.{xor_zero_l}
-use lib.Dec.{eqb}
-use lib.ListN.{length, get_or, take, drop, replicate, length-drop, length-take, length-replicate}
-use lib.Seq.{paste, length-take-le}
-use borrow.Author.Tests.{eq-eqb, ne_eqb}
+use Rattle.std.proofs.Common.{◌≡◌, refl, sym, ap, ap₂, ◌∙◌, Bool, true, false, not, ◌&&◌, ◌||◌, true≢false, List, [], ◌∷◌, map, ℕ, ◌*◌, ◌≤◌, arith, eqb, length, get_or, take, drop, replicate, length-take, length-take-le, eq-eqb, ne_eqb}
+use Rattle.std.proofs.Math.Bool.{and-false, and-true}
+use Rattle.std.proofs.Math.Seq.{paste}
+use Rattle.std.proofs.lemmas.Bool.{false≢true}
+use Rattle.std.proofs.lemmas.List.{length-replicate}
+use Rattle.std.specs.Int.Bits.{xor_zero_l}
 use Rattle.sequence.specs.Lists.{any}
 use Rattle.sequence.proofs.Lists.{or_split}
 use Rattle.xor.specs.Xor.{zip_xor, xor_all, xor_payloads, padded}
@@ -52,10 +48,10 @@ module _ (w : Window) (media timestamps lengths marks these : List ℕ) (whole :
     (es : stamp ≡ number_over timestamps marks these 0)
     (el : long ≡ number_over lengths marks these 0)
     (ez : size ≡ longest (map (λ i. get_or lengths i 0) (present marks these)))
-    (t n k from : ℕ) (recovery : List ℕ) where
-  -- the recovery that is given: k bytes of payload
+    (t n : ℕ) (v : List ℕ) where
+  -- the recovery that is given
   abbrev given : Recovery
-  given = record { content = record { timestamp = t; length = n; payload = padded w.p (take k (drop from recovery)) }; size = k }
+  given = record { content = record { timestamp = t; length = n; payload = padded w.p v }; size = length v }
 
   -- that of the group
   abbrev its : List ℕ → List Record → Recovery
@@ -71,8 +67,8 @@ module _ (w : Window) (media timestamps lengths marks these : List ℕ) (whole :
   size_is = ez ∙ ap (λ (l : List ℕ). longest (map (λ i. get_or lengths i 0) l)) all
 
   -- a payload of another length
-  pub other-size : (size ≡ k → ⊥) → (parity : List ℕ) (records : List Record) → false ≡ same_recovery (its parity records) given
-  other-size d parity records = sym (rw (← size_is, ne_eqb size k d) (and-false (same_content (its parity records).content given.content)))
+  pub other-size : (size ≡ length v → ⊥) → (parity : List ℕ) (records : List Record) → false ≡ same_recovery (its parity records) given
+  other-size d parity records = sym (rw (← size_is, ne_eqb size (length v) d) (and-false (same_content (its parity records).content given.content)))
 
   -- another timestamp or length recovery
   pub other_numbers : (not (eqb stamp t) || not (eqb long n)) ≡ true → (parity : List ℕ) (records : List Record) → false ≡ same_recovery (its parity records) given
@@ -84,14 +80,13 @@ module _ (w : Window) (media timestamps lengths marks these : List ℕ) (whole :
       go true true x y d = absurd (false≢true d)
 
   -- the same numbers: the payloads decide, as far as they reach
-  pub by-payload : size ≡ k → k ≤ w.p → (not (eqb stamp t) || not (eqb long n)) ≡ false → from + k ≤ length recovery → (most : ℕ) → w.p ≤ most → (sum : List ℕ)
+  pub by-payload : size ≡ length v → length v ≤ w.p → (not (eqb stamp t) || not (eqb long n)) ≡ false → (most : ℕ) → w.p ≤ most → (sum : List ℕ)
       → sum ≡ paste (replicate most 0) 0 (xor_payloads w.p (map (row_of w.p w.p media lengths) (present marks these))) size
-      → (is : Bool) → is ≡ same (take k (drop 0 sum)) (take k (drop from recovery)) → (parity : List ℕ) (records : List Record) → is ≡ same_recovery (its parity records) given
-  by-payload e low d room most hm sum ep is ei parity records =
+      → (is : Bool) → is ≡ same (take size sum) v → (parity : List ℕ) (records : List Record) → is ≡ same_recovery (its parity records) given
+  by-payload e low d most hm sum ep is ei parity records =
+      let k : ℕ = length v in
       let x : List ℕ = xor_payloads w.p (map (row_of w.p w.p media lengths) these) in
       let lx : length x ≡ w.p = length-sum w.p (row_of w.p w.p media lengths) (length_own w.p w.p media lengths) these in
-      let v : List ℕ = take k (drop from recovery) in
-      let lv : length v ≡ k = length-take-le k (drop from recovery) (simp length-drop (omega arith)) in
       let lz = length-replicate {A = ℕ} most 0 in
       let lt : length (take k x) ≡ k = length-take-le k x (omega arith) in
       let front : take k sum ≡ take k x =
@@ -99,7 +94,7 @@ module _ (w : Window) (media timestamps lengths marks these : List ℕ) (whole :
       let short : x ≡ padded w.p (take k x) =
       sum-short k w.p media lengths low these (omega (arith, size_is)) ∙ ap (padded w.p) (sum-front k w.p media lengths low these) in
       let payloads : is ≡ same x (padded w.p v) =
-      ei ∙ ap (λ (l : List ℕ). same l v) front ∙ sym (same-padded w.p (take k x) v (lt ∙ sym lv) (omega arith)) ∙ ap (λ (l : List ℕ). same l (padded w.p v)) (sym short) in
+      ei ∙ ap (λ (l : List ℕ). same l v) (ap (λ (j : ℕ). take j sum) e ∙ front) ∙ sym (same-padded w.p (take k x) v lt (omega arith)) ∙ ap (λ (l : List ℕ). same l (padded w.p v)) (sym short) in
       payloads ∙ rw (← number_is timestamps, ← number_is lengths, ← es, ← el, ← size_is, eq-eqb size k e) (go (eqb stamp t) (eqb long n) (same x (padded w.p v)) d)
     where
       go : (a b z : Bool) → (not a || not b) ≡ false → z ≡ ((a && b && z) && true)

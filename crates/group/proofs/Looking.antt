@@ -1,14 +1,6 @@
 -- A look in two stretches, each up to a member that is missing: what is passed, one member more, and what was found. Assumes nothing.
-use mathlib.Core.Path.{◌≡◌, refl, sym, ap, subst, ◌∙◌}
-use mathlib.Core.Bool.{true, false}
-use mathlib.Core.List.{List, [], ◌∷◌, ◌++◌, map}
-use mathlib.Core.Logic.{⊎_elim}
-use Prim.Native.Nat.{ℕ, zero, suc, ◌+◌, ◌<◌, ◌≤◌}
-use native.Mathlib.Nat.{eq-or-lt_of_le}
-use native.Mathlib.Numerals.{add-one}
-use native.Mathlib.Omega.{arith}
-use lib.ListN.{length, drop, length-map, drop_of_length-le}
-use lib.Seq.{drop-append-le, drop_at}
+use Rattle.std.proofs.Common.{◌≡◌, refl, sym, ap, ◌∙◌, false, List, [], ◌∷◌, ◌++◌, map, ⊎_elim, ℕ, zero, suc, ◌+◌, ◌<◌, ◌≤◌, eq-or-lt_of_le, add-one, arith, length, drop, drop_of_length-le, drop_at}
+use Rattle.std.proofs.lemmas.List.{length-map, drop-append-le}
 use Rattle.sequence.specs.Lists.{up_to}
 use Rattle.sequence.proofs.Lists.{map-append, length-up_to}
 use Rattle.window.specs.declared.Look.TheVariants.{None, One, More}
@@ -66,24 +58,14 @@ module _ (marks : List ℕ) (base snbase offset na : ℕ) where
         to_the_second = p.to_the_second ∙ ap (λ (g : List ℕ). j + to_second marks g) d ∙ rw e (omega arith);
       }
 
-  -- a member that is missing ends it
-  pub passed_to : (from j : ℕ) → is_missing marks (at j) ≡ true → Passed marks base snbase offset na from j → Next marks base snbase offset na from j
-  passed_to from j e p = record { passed = p; here = λ _. e }
-
-  -- and so does the last one
-  pub passed-all : (from j : ℕ) → na ≤ j → Passed marks base snbase offset na from j → Next marks base snbase offset na from na
-  passed-all from j h p =
-      let e : j ≡ na = omega (arith, p.end) in
-      record { passed = subst (Passed marks base snbase offset na from) e p; here = λ l. absurd (omega (arith, l)) }
-
   none_left : left na ≡ []
   none_left = left-none at na na (omega arith)
 
   -- none was missing
-  pub found_none : (first : ℕ) → first ≡ na → Next marks base snbase offset na 0 first → None na ≡ look marks (along base snbase offset na)
-  found_none first z h =
-      let m : missing marks (left 0) ≡ [] = h.passed.same-missing ∙ ap (λ (k : ℕ). missing marks (left k)) z ∙ ap (missing marks) none_left in
-      let t : to_second marks (left 0) ≡ na = let e = h.passed.to_the_second ∙ ap (λ (k : ℕ). k + to_second marks (left k)) z ∙ ap (λ (g : List ℕ). na + to_second marks g) none_left in omega (arith, e) in
+  pub found_none : Passed marks base snbase offset na 0 na → None na ≡ look marks (along base snbase offset na)
+  found_none h =
+      let m : missing marks (left 0) ≡ [] = h.same-missing ∙ ap (missing marks) none_left in
+      let t : to_second marks (left 0) ≡ na = let e = h.to_the_second ∙ ap (λ (g : List ℕ). na + to_second marks g) none_left in omega (arith, e) in
       sym (rw (m, t))
 
   -- one was: the member at index `first`
@@ -99,19 +81,19 @@ module _ (marks : List ℕ) (base snbase offset na : ℕ) where
         let e : first + to_second marks (left first) ≡ first + suc (to_first marks (left (first + 1))) = ap (λ (g : List ℕ). first + to_second marks g) apart ∙ rw (h.here l) in
         omega (arith, h.passed.to_the_second, e)
 
-    module _ (second : ℕ) (n : Next marks base snbase offset na (first + 1) second) where
-      pub found-one : second ≡ na → (i : ℕ) → i ≡ at first → One i na ≡ look marks (along base snbase offset na)
-      found-one z i e =
-          let m : missing marks (left 0) ≡ at first ∷ [] = missing-from ∙ ap (λ (g : List ℕ). at first ∷ g) (n.passed.same-missing ∙ ap (λ (k : ℕ). missing marks (left k)) z ∙ ap (missing marks) none_left) in
-          let f = n.passed.to_the_first ∙ ap (λ (k : ℕ). k + to_first marks (left k)) z ∙ ap (λ (g : List ℕ). na + to_first marks g) none_left in
-          let t : to_second marks (left 0) ≡ na = omega (arith, second_from, f) in
-          sym (rw (m, t, e))
+    -- and no other
+    pub found-one : Passed marks base snbase offset na (first + 1) na → (i : ℕ) → i ≡ at first → One i na ≡ look marks (along base snbase offset na)
+    found-one n i e =
+        let m : missing marks (left 0) ≡ at first ∷ [] = missing-from ∙ ap (λ (g : List ℕ). at first ∷ g) (n.same-missing ∙ ap (missing marks) none_left) in
+        let f = n.to_the_first ∙ ap (λ (g : List ℕ). na + to_first marks g) none_left in
+        let t : to_second marks (left 0) ≡ na = omega (arith, second_from, f) in
+        sym (rw (m, t, e))
 
-      -- another one was
-      pub found-more : second < na → More (second + 1) ≡ look marks (along base snbase offset na)
-      found-more k =
-          let d : left second ≡ at second ∷ left (second + 1) = rw (add-one second) (left-more at na second k) in
-          let m : missing marks (left 0) ≡ at first ∷ at second ∷ missing marks (left (second + 1)) = missing-from ∙ ap (λ (g : List ℕ). at first ∷ g) (n.passed.same-missing ∙ ap (missing marks) d ∙ rw (n.here k)) in
-          let f : to_first marks (left second) ≡ 1 = ap (to_first marks) d ∙ rw (n.here k) in
-          let t : to_second marks (left 0) ≡ second + 1 = omega (arith, second_from, n.passed.to_the_first, f) in
-          sym (rw (m, t))
+    -- and another one
+    pub found-more : (second : ℕ) → Next marks base snbase offset na (first + 1) second → second < na → More (second + 1) ≡ look marks (along base snbase offset na)
+    found-more second n k =
+        let d : left second ≡ at second ∷ left (second + 1) = rw (add-one second) (left-more at na second k) in
+        let m : missing marks (left 0) ≡ at first ∷ at second ∷ missing marks (left (second + 1)) = missing-from ∙ ap (λ (g : List ℕ). at first ∷ g) (n.passed.same-missing ∙ ap (missing marks) d ∙ rw (n.here k)) in
+        let f : to_first marks (left second) ≡ 1 = ap (to_first marks) d ∙ rw (n.here k) in
+        let t : to_second marks (left 0) ≡ second + 1 = omega (arith, second_from, n.passed.to_the_first, f) in
+        sym (rw (m, t))

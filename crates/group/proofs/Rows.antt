@@ -1,20 +1,11 @@
 -- The members of a group that are present, as rows of the store: they lie in the window, so their rows lie in the media store. Assumes nothing.
-use mathlib.Core.Path.{◌≡◌, sym, ap, ap₂, subst, ◌∙◌}
-use mathlib.Core.Bool.{Bool, true, false, cond, not}
-use mathlib.Core.List.{List, [], ◌∷◌, ◌++◌, map}
-use Prim.Native.Nat.{ℕ, zero, suc, ◌+◌, ◌*◌, ◌^◌, ◌<◌, ◌≤◌}
-use native.Mathlib.Nat.{mul-le-mul_right, suc-mul}
-use native.Mathlib.Omega.{arith}
-use lib.ListN.{length, get_or, take, drop, replicate, length-drop, length-replicate}
-use lib.Seq.{paste, get_or-take, take_all, length-take-le, length-paste}
+use Rattle.std.proofs.Common.{◌≡◌, sym, ap, ap₂, subst, ◌∙◌, Bool, true, false, cond, not, List, [], ◌∷◌, ◌++◌, map, ℕ, zero, suc, ◌+◌, ◌*◌, ◌^◌, ◌<◌, ◌≤◌, mul-le-mul_right, suc-mul, arith, length, get_or, take, drop, bit_xor}
 use Rattle.sequence.specs.Lists.{up_to, keep}
 use Rattle.sequence.proofs.Lists.{map-append}
 use Rattle.rtp.specs.Fec.{offset_of, na_of}
 use Rattle.parity.specs.Rows.{Rows, row_of}
-use Rattle.parity.specs.Own.{length_own, length-sum}
-use lib.Bits.{bit_xor}
-use Rattle.xor.specs.Xor.{zip_xor, xor_all, xor_payloads, padded, take-zip, le-zip}
-use Rattle.xor.specs.Padded.{take-replicate, take-padded, zeros-front, take-front}
+use Rattle.xor.specs.Xor.{zip_xor, xor_all, xor_payloads, take-zip}
+use Rattle.xor.specs.Padded.{take-replicate, take-padded}
 use Rattle.window.specs.declared.Window.{Window}
 use Rattle.window.specs.Limits.{width, most_side}
 use Rattle.window.specs.Bounds.{SetUp}
@@ -72,17 +63,11 @@ sum-front k p media lengths b (i ∷ l) =
 
 -- ---- the members held of a group
 module _ (group marks : List ℕ) (n : ℕ) (rows : List ℕ) (m : ℕ) (h : Held group marks n rows m) where
-  m_long : m ≤ length rows
-  m_long = omega (arith, h.few, h.long)
+  pub rows-asked : (p : ℕ) (media : List ℕ) → n * p ≤ length media → Rows (take m rows) p (length media)
+  rows-asked p media e i k = row_ends (get_or (take m rows) i 0) n p (length media) (below-get_or n (take m rows) h.below i k) e
 
-  row_below : (i : ℕ) → i < m → get_or rows i 0 < n
-  row_below i k = rw (get_or-take m rows i 0 k) at (below-get_or n (take m rows) h.below i (rw (length-take-le m rows m_long) k))
-
-  pub rows-asked : (p : ℕ) (media : List ℕ) → n * p ≤ length media → Rows rows m p (length media)
-  rows-asked p media e = record { long = m_long; ends = λ i k. row_ends (get_or rows i 0) n p (length media) (row_below i k) e }
-
-  pub numbers_asked : (timestamps : List ℕ) → n ≤ length timestamps → (m ≤ length rows) × ((i : ℕ) → i < m → get_or rows i 0 < length timestamps)
-  numbers_asked timestamps e = (m_long, λ i k. let q = row_below i k in omega arith)
+  pub numbers_asked : (part : List ℕ) → n ≤ length part → (i : ℕ) → i < length (take m rows) → get_or (take m rows) i 0 < length part
+  numbers_asked part e i k = let q = below-get_or n (take m rows) h.below i k in omega arith
 
   -- their timestamps, or their lengths
   pub numbers_held : (part : List ℕ) (number : ℕ) → bit_xor number (xor_all (map (λ i. get_or part i 0) (take m rows))) ≡ number_over part marks group number
@@ -107,17 +92,3 @@ module _ (w : Window) (based : w.base < 2 ^ width) (u : SetUp w) (stream snbase 
   -- the one position that a look finds lies in the window
   pub one_below : (marks : List ℕ) (i v : ℕ) → look marks (group w stream snbase) ≡ One i v → i < w.n
   one_below marks i v e = (subst (Below w.n) (one-missing marks (group w stream snbase) v i e) (kept-below (is_missing marks))).0
-
--- a recovery of `size` bytes, copied into zeros and added up there: the first p bytes are the exclusive-or of the recovery, with zeros up to p, and of what is held
-pub through : (p size from most : ℕ) (media lengths marks group recovery s t : List ℕ) → size ≤ p → p ≤ most → from + size ≤ length recovery
-    → s ≡ paste (replicate most 0) 0 (drop from recovery) size → t ≡ paste s 0 (payload_over p media lengths marks group s) p
-    → take p t ≡ payload_over p media lengths marks group (padded p (take size (drop from recovery)))
-through p size from most media lengths marks group recovery s t hs hp hr es et =
-    let x : List ℕ = xor_payloads p (map (row_of p p media lengths) (present marks group)) in
-    let v : List ℕ = drop from recovery in
-    let lx : length x ≡ p = length-sum p (row_of p p media lengths) (length_own p p media lengths) (present marks group) in
-    let hv : size ≤ length v = simp length-drop (omega arith) in
-    let front : take p s ≡ padded p (take size v) = ap (take p) es ∙ zeros-front p size most v hs hp hv in
-    let zs = length-replicate {A = ℕ} most 0 in
-    let ls : length s ≡ most = ap length es ∙ length-paste (replicate most 0) 0 v size (omega arith) hv ∙ zs in
-    ap (take p) et ∙ take-front s (zip_xor s x) p (omega arith) (le-zip p s x (omega arith) (omega arith)) ∙ take-zip p s x ∙ ap₂ zip_xor front (take_all p x (omega arith))

@@ -1,10 +1,6 @@
 -- What the front of a file says, one way through the definitions at a time. Assumes nothing.
-use mathlib.Core.Path.{◌≡◌, sym, subst}
-use mathlib.Core.List.{List}
-use Prim.Native.Nat.{ℕ, ◌+◌, ◌≤◌, ◌<◌}
-use native.Mathlib.Omega.{arith}
-use borrow.Author.Tests.{lt-ltb, le-ltb, le-leb, lt-leb}
-use lib.ListN.{length}
+use Rattle.std.proofs.Common.{◌≡◌, sym, subst, List, ℕ, ◌+◌, ◌≤◌, ◌<◌, arith, lt-ltb, le-ltb, le-leb, length}
+use Rattle.std.proofs.lemmas.Bool.{lt-leb}
 use Rattle.rtp.specs.Bytes.{byte, be16, be32}
 use Rattle.capture.specs.declared.Header.{Header}
 use Rattle.capture.specs.declared.Line.{Line}

@@ -23,7 +23,8 @@ use Rattle.window.specs.Store.{stored}
 use Rattle.calls.specs.State.{scene}
 use Rattle.calls.specs.Call.{begun}
 use Rattle.calls.specs.Move.{behind, release_behind}
-use Rattle.table.specs.View.{Row, slot_at, it_at, scatter}
+use Rattle.table.specs.declared.Row.{Row}
+use Rattle.table.specs.View.{slot_at, it_at, scatter}
 use Rattle.table.specs.Apart.{Fits, same_length}
 use Rattle.table.specs.Sound.{Sound}
 use Rattle.engine.specs.Rows.{Desk, free_below}

@@ -1,4 +1,4 @@
-pub mod Down
+pub mod Blocks
 pub mod Slots
 pub mod Tests
 pub mod Behind

@@ -15,7 +15,8 @@ use Rattle.window.specs.Limits.{set_up_tests}
 use Rattle.window.specs.Store.{Store, stored, short_store}
 use Rattle.window.specs.Order.{disorder}
 use Rattle.calls.specs.Move.{bad_move, slot_size, short_outputs, move_tests}
-use Rattle.table.specs.View.{Row, scatter}
+use Rattle.table.specs.declared.Row.{Row}
+use Rattle.table.specs.View.{scatter}
 use Rattle.table.specs.Apart.{alike_refl}
 use Rattle.order.specs.Stands.{Stands, Stood}
 use Rattle.moving.specs.Move.{Judged}

@@ -1,12 +1,9 @@
 -- The ways through a move. Assumes nothing.
-use mathlib.Core.Path.{◌≡◌, refl, sym, ap, ap₂, ◌∙◌}
-use mathlib.Core.Bool.{true, false}
-use mathlib.Core.List.{List, ◌++◌}
-use Prim.Native.Nat.{ℕ, zero, suc, ◌^◌, ◌<◌, ◌≤◌}
-use native.Mathlib.Omega.{arith}
-use lib.ListN.{length}
-use borrow.Author.Tests.{ne_eqb}
-use Rattle.answer.specs.declared.Answer.TheVariants.{Done, Refused}
+use Rattle.std.proofs.Common.{◌≡◌, refl, sym, ap, ap₂, ◌∙◌, false, List, ◌++◌, ℕ, zero, suc, ◌^◌, ◌<◌, ◌≤◌, arith, length, ne_eqb, Ok, Err}
+use Rattle.answer.specs.declared.Refusal.{Refusal}
+use Rattle.answer.specs.Refused.{refusal_number, fault_of}
+use Rattle.answer.proofs.Refused.{never_0}
+use Rattle.answer.specs.Number.{Done, Refused}
 use Rattle.answer.specs.First.{first}
 use Rattle.xor.specs.Xor.{padded}
 use Rattle.window.specs.declared.Record.{Record}
@@ -17,7 +14,8 @@ use Rattle.window.specs.Store.{Store, stored}
 use Rattle.calls.specs.State.{State, scene}
 use Rattle.calls.specs.Call as calls
 use Rattle.calls.specs.Move as call
-use Rattle.table.specs.View.{Row, scatter}
+use Rattle.table.specs.declared.Row.{Row}
+use Rattle.table.specs.View.{scatter}
 use Rattle.table.specs.Apart.{Fits, alike-scatter, alike-fits, length-scatter}
 use Rattle.order.specs.Stands.{Taken, Stands}
 use Rattle.engine.specs.Round.{Parts, over}
@@ -66,11 +64,11 @@ module _ (w : Window) (by len : ℕ) (x : Parts) (out sizes : List ℕ) (hs : Li
   first-is t e k = j.is x.media x.timestamps x.parity out sizes t (rw (length-scatter x.rows t, e)) refl refl k
 
   -- the move is refused
-  pub move-refused : (z ≡ 0 → ⊥) → Advance w by len x out sizes (record { answer = Refused z; window = w; changed = false }) noted out sizes
-  move-refused h = record {
+  pub move-refused : (e : Refusal) → refusal_number e ≡ z → Advance w by len x out sizes (Err e) noted out sizes
+  move-refused e h = record {
     same-slots = j.alike.same-slots;
-    is = λ t e k. ap (λ (s : Store). record { answer = Refused z; window = w; store = s; out = out; sizes = sizes }) (over-same t) ∙ moved-no w by (over x t) out sizes z (first-is t e k) h;
-    still = λ _ t. alike-scatter j.alike t;
+    is = λ t l k. ap (λ (s : Store). record { answer = Refused (refusal_number e); window = w; store = s; out = out; sizes = sizes }) (over-same t) ∙ moved-no w by (over x t) out sizes (refusal_number e) (h ∙ first-is t l k) (never_0 e);
+    still = λ _ _ t. alike-scatter j.alike t;
   }
 
   module _ (ok : z ≡ 0) where
@@ -96,21 +94,18 @@ module _ (w : Window) (by len : ℕ) (x : Parts) (out sizes : List ℕ) (hs : Li
     module _ (based : w.base < 2 ^ width) (n : ℕ) (out' sizes' : List ℕ) (ec : n ≡ call.leaving_count (positions x.media x.timestamps x.lengths x.marks) by)
         (eo : out' ≡ calls.over (call.leaving_slots w (positions x.media x.timestamps x.lengths x.marks) by) out)
         (es : sizes' ≡ calls.over (call.leaving_sizes w (positions x.media x.timestamps x.lengths x.marks) by) sizes)
-        (v : Window) (m : ℕ) (em : length hs ≡ m) (y : Parts) (ed : desk v y.parity y.rows ≡ free_below (row_behind w.base by) m (desk w x.parity hs))
+        (v : Window) (y : Parts) (ed : desk v y.parity y.rows ≡ free_below (row_behind w.base by) (length hs) (desk w x.parity hs))
         (ep : (parity : List ℕ) (t : List Record) → stored y.media y.timestamps y.lengths y.marks parity t ≡ call.shifted w by (stored x.media x.timestamps x.lengths x.marks parity t))
         (u : Window) (eu : u ≡ call.advanced by n v) where
-      freed : desk v y.parity y.rows ≡ free_below (row_behind w.base by) (length hs) (desk w x.parity hs)
-      freed = ed ∙ ap (λ (k : ℕ). free_below (row_behind w.base by) k (desk w x.parity hs)) (sym em)
-
       state : (t : List Record) → length t ≡ len → Taken t w.k x.rows
           → scene v (stored x.media x.timestamps x.lengths x.marks y.parity (scatter y.rows t)) 0 0 ≡ call.release_behind by (calls.begun w (over x t))
       state t e k =
-          released w based stands.set_up by x.marks hs stands.sound x.parity stands.long.parity-long x.media x.timestamps x.lengths t (fits-now t e k) v y.parity y.rows freed
+          released w based stands.set_up by x.marks hs stands.sound x.parity stands.long.parity-long x.media x.timestamps x.lengths t (fits-now t e k) v y.parity y.rows ed
           ∙ ap (λ (s : Store). call.release_behind by (calls.begun w s)) (over-same t)
 
-      pub move-made : Advance w by len x out sizes (record { answer = Done n 0; window = u; changed = true }) y out' sizes'
+      pub move-made : Advance w by len x out sizes (Ok (record { count = n; window = u })) y out' sizes'
       move-made = record {
-        same-slots = (slots_kept w based stands.set_up by x.marks hs stands.sound x.parity stands.long.parity-long v y.parity y.rows freed).same-slots ∙ j.alike.same-slots;
+        same-slots = (slots_kept w based stands.set_up by x.marks hs stands.sound x.parity stands.long.parity-long v y.parity y.rows ed).same-slots ∙ j.alike.same-slots;
         is = λ t e k.
             let s = state t e k in
             let window : u ≡ call.advanced by (call.leaving_count (over x t) by) (call.release_behind by (calls.begun w (over x t))).window = eu ∙ ap₂ (λ (c : ℕ) (q : State). call.advanced by c q.window) ec s in
@@ -118,5 +113,5 @@ module _ (w : Window) (by len : ℕ) (x : Parts) (out sizes : List ℕ) (hs : Li
             let slots : out' ≡ calls.over (call.leaving_slots w (over x t) by) out = eo ∙ ap (λ (l : List ℕ). calls.over l out) (slots_same w x.media x.timestamps x.lengths x.marks x.parity (scatter x.rows t) by) in
             (λ i. record { answer = Done (ec i) 0; window = window i; store = store i; out = slots i; sizes = es i })
             ∙ moved-yes w by (over x t) out sizes (sym ok ∙ first-is t e k);
-        still = λ c. absurd (let q : ◌≡◌ {A = ℕ} 0 1 = cc in omega arith);
+        still = λ e q. absurd (never_0 e (sym (ap fault_of q)));
       }

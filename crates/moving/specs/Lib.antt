@@ -1,3 +1,4 @@
 pub mod Rows
 pub mod Lies
+pub mod Down
 pub mod Move

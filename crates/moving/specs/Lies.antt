@@ -1,5 +1,6 @@
 -- What the packets that leave need: as much of each part as the window has positions, and no packet present that is longer than P.
 use Rattle.std.specs.Prelude.{◌≡◌, false, List, [], ℕ, ◌*◌, ◌<◌, ◌≤◌, length, get_or}
+use Rattle.window.specs.declared.StoreView.{StoreView}
 use Rattle.window.specs.declared.Window.{Window}
 use Rattle.window.specs.Bounds.{SetUp}
 use Rattle.window.specs.Group.{is_missing}
@@ -17,3 +18,11 @@ pub record Lies (w : Window) (media timestamps lengths marks : List ℕ) : Type 
   pub lengths-long : w.n ≤ length lengths
   pub marks-long : w.n ≤ length marks
   pub lengths-low : (i : ℕ) → i < w.n → is_missing marks i ≡ false → get_or lengths i 0 ≤ w.p
+
+-- the positions of a store that is lent to be read
+abbrev pub held_in : StoreView → Store
+held_in v = positions v.media.now v.timestamps.now v.lengths.now v.marks.now
+
+-- the positions of a window lie in such a store
+abbrev pub LiesIn : Window → StoreView → Type 0
+LiesIn w v = Lies w v.media.now v.timestamps.now v.lengths.now v.marks.now

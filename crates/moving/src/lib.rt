@@ -11,90 +11,38 @@ ghost use Rattle.window.specs.Order.{used};
 ghost use Rattle.window.specs.Store.{stored};
 ghost use Rattle.calls.specs.Call.{over};
 ghost use Rattle.calls.specs.Move as call;
-ghost use Rattle.table.specs.View.{hand, slot_at, it_at};
+ghost use Rattle.table.specs.View.{slot_at, it_at};
 ghost use Rattle.engine.specs.Rows.{free_if, free_below};
 ghost use Rattle.moving.specs.Rows.{row_behind};
-ghost use Rattle.moving.specs.Lies.{positions, Lies};
+ghost use Rattle.moving.specs.Down.{down};
+ghost use Rattle.answer.specs.Refused.{fault_of};
+ghost use Rattle.moving.specs.Lies.{held_in, LiesIn};
 ghost use Rattle.moving.specs.Move.{Judged, Advance};
 
-use answer::Answer;
-use window::{Sizes, Window};
+use answer::Refusal;
+use table::Row;
+use window::{Sizes, StoreView, Window};
 
 // ---- positions move down
 
-// Bytes that are moved at once.
-pub const BLOCK: usize = 4096;
-
-// How many bytes go into the next block.
-fn in_block(left: usize) -> usize
-    ensures { (result ≤ left) × (result ≤ 4096) × (0 < left → 0 < result) }
+// The first n elements move down by m, with `zero` behind them: m at a time, since std's copy_within moves one at a time. The
+// last ones are fewer, so the loop counts by how many there were.
+fn down<T: Copy>(part: &mut [T], zero: T, m: usize, n: usize)
+    requires { (m ≤ n) × (n ≤ length part.old) × T.is_infallible zero × ((y : T) → T.is_clone zero y → y ≡ zero) }
+    ensures { part.new ≡ down zero m n part.old }
 {
-    if left < BLOCK { left } else { BLOCK }
-}
-
-// The n bytes from `from` on are copied to `to`, over a block.
-fn copy_block(part: &mut [u8], to: usize, from: usize, n: usize)
-    requires { (to + n ≤ length part.old) × (from + n ≤ length part.old) × (n ≤ 4096) }
-    ensures { part.new ≡ paste part.old to (drop from part.old) n }
-{
-    let mut block = [0u8; 4096];
-    xor::copy_at(&mut block, 0, part, from, n);
-    xor::copy_at(part, to, &block, 0, n);
-}
-
-// The first n bytes move down by m, with zeros behind them.
-fn down8(part: &mut [u8], m: usize, n: usize)
-    requires { (m ≤ n) × (n ≤ length part.old) }
-    ensures { part.new ≡ call.moved_down m n part.old }
-{
+    if m == 0 {
+        return;
+    }
     let left = n - m;
     let mut at = 0;
     while at < left {
-        let size = in_block(left - at);
-        copy_block(part, at, at + m, size);
+        let size = m.min(left - at);
+        let (front, back) = part.split_at_mut(at + m);
+        front[at..at + size].copy_from_slice(&back[..size]);
         at += size;
     }
-    xor::zero_at(part, left, m);
-}
-
-// What element i becomes where the first n move down by m.
-fn next32(part: &[u32], m: usize, n: usize, i: usize) -> u32
-    requires { (m ≤ n) × (n ≤ length part.now) × (i < n) }
-    ensures { result ≡ cond (ltb i (n - m)) (get_or part.now (i + m) 0) 0 }
-{
-    if i < n - m { part[i + m] } else { 0 }
-}
-
-// The first n numbers of 32 bits move down by m, with zeros behind them.
-fn down32(part: &mut [u32], m: usize, n: usize)
-    requires { (m ≤ n) × (n ≤ length part.old) }
-    ensures { part.new ≡ call.moved_down m n part.old }
-{
-    let mut i = 0;
-    while i < n {
-        part[i] = next32(part, m, n, i);
-        i += 1;
-    }
-}
-
-// What element i becomes where the first n move down by m.
-fn next16(part: &[u16], m: usize, n: usize, i: usize) -> u16
-    requires { (m ≤ n) × (n ≤ length part.now) × (i < n) }
-    ensures { result ≡ cond (ltb i (n - m)) (get_or part.now (i + m) 0) 0 }
-{
-    if i < n - m { part[i + m] } else { 0 }
-}
-
-// The first n numbers of 16 bits move down by m, with zeros behind them.
-fn down16(part: &mut [u16], m: usize, n: usize)
-    requires { (m ≤ n) × (n ≤ length part.old) }
-    ensures { part.new ≡ call.moved_down m n part.old }
-{
-    let mut i = 0;
-    while i < n {
-        part[i] = next16(part, m, n, i);
-        i += 1;
-    }
+    part[left..n].fill(zero);
 }
 
 // All positions move down, and new ones are missing, all zeros.
@@ -112,39 +60,32 @@ fn shift(
 {
     let n = w.n;
     let p = w.p;
-    down8(media, by * p, n * p);
-    down32(timestamps, by, n);
-    down16(lengths, by, n);
-    down8(marks, by, n);
+    down(media, 0, by * p, n * p);
+    down(timestamps, 0, by, n);
+    down(lengths, 0, by, n);
+    down(marks, 0, by, n);
 }
 
 // ---- packets leave
 
 // The packet of position i at the front of `out`, with zeros up to the end of its slot; the answer is how many bytes it has, 0 where
 // it is lost.
-fn leave(
-    w: Window,
-    i: usize,
-    media: &[u8],
-    timestamps: &[u32],
-    lengths: &[u16],
-    marks: &[u8],
-    out: &mut [u8],
-) -> usize
-    requires { (i < w.n) × Lies w media.now timestamps.now lengths.now marks.now × (call.slot_size w ≤ length out.old) }
-    ensures { (out.new ≡ over (padded (call.slot_size w) (call.leaving w (positions media.now timestamps.now lengths.now marks.now) i)) out.old)
-        × (result ≡ length (call.leaving w (positions media.now timestamps.now lengths.now marks.now) i)) × (result < 65536) }
+fn leave(w: Window, i: usize, store: StoreView, out: &mut [u8]) -> usize
+    requires { (i < w.n) × LiesIn w store × (call.slot_size w ≤ length out.old) }
+    ensures { (out.new ≡ over (padded (call.slot_size w) (call.leaving w (held_in store.entry) i)) out.old)
+        × (result ≡ length (call.leaving w (held_in store.entry) i)) × (result < 65536) }
 {
     let to = rtp::RTP_HEADER;
-    let p = w.p;
-    if marks[i] == 0 {
-        xor::zero_at(out, 0, to + p);
+    let slot = to + w.p;
+    if store.marks[i] == 0 {
+        out[..slot].fill(0);
         return 0;
     }
-    let size = rtp::wide(lengths[i]);
+    let at = i * w.p;
+    let size = rtp::wide(store.lengths[i]);
     let number = sequence::next(w.base, i as u16);
-    xor::lay_at(out, to, media, i * p, size, p);
-    rtp::write_rtp(out, rtp::MEDIA_TYPE, number, timestamps[i], w.ssrc);
+    xor::lay(&mut out[to..slot], &store.media[at..at + size]);
+    rtp::write_rtp(out, rtp::MEDIA_TYPE, number, store.timestamps[i], w.ssrc);
     to + size
 }
 
@@ -156,30 +97,19 @@ fn one(size: usize) -> usize
 }
 
 // The packets of the first `by` positions, each in its slot of `out`, and their lengths; the answer is how many are not lost.
-fn leave_all(
-    w: Window,
-    by: usize,
-    media: &[u8],
-    timestamps: &[u32],
-    lengths: &[u16],
-    marks: &[u8],
-    out: &mut [u8],
-    sizes: &mut [u16],
-) -> usize
-    requires { (by ≤ w.n) × Lies w media.now timestamps.now lengths.now marks.now × (by * call.slot_size w ≤ length out.old) × (by ≤ length sizes.old) }
-    ensures { (out.new ≡ over (call.leaving_slots w (positions media.now timestamps.now lengths.now marks.now) by) out.old)
-        × (sizes.new ≡ over (call.leaving_sizes w (positions media.now timestamps.now lengths.now marks.now) by) sizes.old)
-        × (result ≡ call.leaving_count (positions media.now timestamps.now lengths.now marks.now) by) }
+fn leave_all(w: Window, by: usize, store: StoreView, out: &mut [u8], sizes: &mut [u16]) -> usize
+    requires { (by ≤ w.n) × LiesIn w store × (by * call.slot_size w ≤ length out.old) × (by ≤ length sizes.old) }
+    ensures { (out.new ≡ over (call.leaving_slots w (held_in store.entry) by) out.old)
+        × (sizes.new ≡ over (call.leaving_sizes w (held_in store.entry) by) sizes.old)
+        × (result ≡ call.leaving_count (held_in store.entry) by) }
 {
     let slot = rtp::RTP_HEADER + w.p;
     let mut count = 0;
-    let mut i = 0;
-    while i < by {
+    for i in 0..by {
         let at = i * slot;
-        let size = leave(w, i, media, timestamps, lengths, marks, &mut out[at..]);
+        let size = leave(w, i, store, &mut out[at..]);
         sizes[i] = size as u16;
         count += one(size);
-        i += 1;
     }
     count
 }
@@ -187,11 +117,11 @@ fn leave_all(
 // ---- parity with a member behind the new base
 
 // Row i is released if it is in use and its group begins behind position `by`: that is its first member, the others lie further on.
-fn release_row(w: Window, by: usize, i: usize, parity: &mut [u8], rows: &mut [u32]) -> Window
-    requires { (i < length (hand rows.old)) × (used (it_at (hand rows.old) i) ≡ true → slot_at (hand rows.old) i < w.k) × (w.k * w.p ≤ length parity.old) }
-    ensures { record { window = result; parity = parity.new; rows = hand rows.new } ≡ free_if (row_behind w.base by) i (record { window = w; parity = parity.old; rows = hand rows.old }) }
+fn release_row(w: Window, by: usize, i: usize, parity: &mut [u8], rows: &mut [Row]) -> Window
+    requires { (i < length rows.old) × (used (it_at rows.old i) ≡ true → slot_at rows.old i < w.k) × (w.k * w.p ≤ length parity.old) }
+    ensures { record { window = result; parity = parity.new; rows = rows.new } ≡ free_if (row_behind w.base by) i (record { window = w; parity = parity.old; rows = rows.old }) }
 {
-    let v = table::record_at(rows, i);
+    let v = rows[i].it;
     if v.in_use != 1 {
         return w;
     }
@@ -202,36 +132,25 @@ fn release_row(w: Window, by: usize, i: usize, parity: &mut [u8], rows: &mut [u3
     engine::free_row(w, i, parity, rows)
 }
 
-// Every such row is released. The hand has m rows.
-fn release_behind(w: Window, by: usize, parity: &mut [u8], rows: &mut [u32], m: usize) -> Window
-    requires { (length (hand rows.old) ≡ m) × ((i : ℕ) → i < m → used (it_at (hand rows.old) i) ≡ true → slot_at (hand rows.old) i < w.k) × (w.k * w.p ≤ length parity.old) }
-    ensures { record { window = result; parity = parity.new; rows = hand rows.new } ≡ free_below (row_behind w.base by) m (record { window = w; parity = parity.old; rows = hand rows.old }) }
+// Every such row is released.
+fn release_behind(w: Window, by: usize, parity: &mut [u8], rows: &mut [Row]) -> Window
+    requires { ((i : ℕ) → i < length rows.old → used (it_at rows.old i) ≡ true → slot_at rows.old i < w.k) × (w.k * w.p ≤ length parity.old) }
+    ensures { record { window = result; parity = parity.new; rows = rows.new } ≡ free_below (row_behind w.base by) (length rows.old) (record { window = w; parity = parity.old; rows = rows.old }) }
 {
     let mut v = w;
-    let mut i = 0;
-    while i < m {
-        let next = release_row(v, by, i, parity, rows);
-        v = next;
-        i += 1;
+    for i in 0..rows.len() {
+        v = release_row(v, by, i, parity, rows);
     }
     v
 }
 
 // ---- the call
 
-// What a move gives back: the answer and the next window value, and whether the records may differ from what they were.
+// What a move gives back: how many packets were written, and the next window value.
 #[derive(Clone, Copy)]
 pub struct Moved {
-    pub answer: Answer,
+    pub count: usize,
     pub window: Window,
-    pub changed: bool,
-}
-
-// Less, but not below 0.
-fn less(x: usize, y: usize) -> usize
-    ensures { result ≡ x - y }
-{
-    if x < y { 0 } else { x - y }
 }
 
 // The window value with its base `by` positions on, and `left` packets fewer.
@@ -239,19 +158,9 @@ fn advanced(w: Window, by: usize, left: usize) -> Window
     requires { by < 65536 }
     ensures { result ≡ call.advanced by left w }
 {
-    let present = less(w.present, left);
     let base = sequence::next(w.base, by as u16);
-    Window {
-        base,
-        ssrc: w.ssrc,
-        l: w.l,
-        d: w.d,
-        p: w.p,
-        n: w.n,
-        k: w.k,
-        present,
-        in_use: w.in_use,
-    }
+    let present = w.present.saturating_sub(left);
+    Window { base, present, ..w }
 }
 
 // The outputs have fewer than `by` slots and lengths.
@@ -262,8 +171,8 @@ fn short_outputs(w: Window, by: usize, room: usize, count: usize) -> bool
     (room < by * (rtp::RTP_HEADER + w.p)) | (count < by)
 }
 
-// The first refusal that applies, or 0: 1 to 3, 22, 4, 5. The outputs have `room` bytes and `count` lengths.
-fn move_fault(
+// The first refusal that applies: 1 to 3, 22, 4, 5. The outputs have `room` bytes and `count` lengths.
+fn check_move(
     w: Window,
     by: usize,
     z: Sizes,
@@ -271,25 +180,20 @@ fn move_fault(
     count: usize,
     lengths: &[u16],
     marks: &[u8],
-    rows: &mut [u32],
-    m: usize,
-) -> u8
-    requires { (z.lengths ≡ length lengths.now) × (z.marks ≡ length marks.now) × (length (hand rows.old) ≡ m) }
-    ensures { Judged w by z room count lengths.now marks.now (hand rows.old) (hand rows.new) result }
+    rows: &mut [Row],
+) -> Result<(), Refusal>
+    requires { (z.lengths ≡ length lengths.now) × (z.marks ≡ length marks.now) }
+    ensures { Judged w by z room count lengths.now marks.now rows.old rows.new (fault_of result) }
 {
-    let fault = w.set_up_fault();
-    if fault != 0 {
-        return fault;
-    }
+    w.check_set_up()?;
     if (by < 1) | (w.n < by) {
-        return 22;
+        return Err(Refusal::BadMove);
     }
     let short = short_outputs(w, by, room, count);
-    order::standing_fault(w, z, short, lengths, marks, rows, m)
+    order::check_standing(w, z, short, lengths, marks, rows)
 }
 
-// The base advances by `by` positions: what leaves is written to `out` and `sizes`, or the move is refused. The hand has m rows, the
-// table len records.
+// The base advances by `by` positions: what leaves is written to `out` and `sizes`, or the move is refused. The table has len records.
 pub fn advance(
     w: Window,
     by: usize,
@@ -298,39 +202,26 @@ pub fn advance(
     lengths: &mut [u16],
     marks: &mut [u8],
     parity: &mut [u8],
-    rows: &mut [u32],
-    m: usize,
+    rows: &mut [Row],
     len: usize,
     out: &mut [u8],
     sizes: &mut [u16],
-) -> Moved
-    requires { length (hand rows.old) ≡ m }
-    ensures { Advance w by len (record { media = media.old; timestamps = timestamps.old; lengths = lengths.old; marks = marks.old; parity = parity.old; rows = hand rows.old }) out.old sizes.old result
-        (record { media = media.new; timestamps = timestamps.new; lengths = lengths.new; marks = marks.new; parity = parity.new; rows = hand rows.new }) out.new sizes.new }
+) -> Result<Moved, Refusal>
+    ensures { Advance w by len (record { media = media.old; timestamps = timestamps.old; lengths = lengths.old; marks = marks.old; parity = parity.old; rows = rows.old }) out.old sizes.old result
+        (record { media = media.new; timestamps = timestamps.new; lengths = lengths.new; marks = marks.new; parity = parity.new; rows = rows.new }) out.new sizes.new }
 {
-    let z = Sizes {
-        media: media.len(),
-        timestamps: timestamps.len(),
-        lengths: lengths.len(),
-        marks: marks.len(),
-        parity: parity.len(),
-        records: len,
+    let z = Sizes::of(media, timestamps, lengths, marks, parity, len);
+    check_move(w, by, z, out.len(), sizes.len(), lengths, marks, rows)?;
+    let store = StoreView {
+        media,
+        timestamps,
+        lengths,
+        marks,
+        parity,
     };
-    let fault = move_fault(w, by, z, out.len(), sizes.len(), lengths, marks, rows, m);
-    if fault != 0 {
-        return Moved {
-            answer: Answer::Refused(fault),
-            window: w,
-            changed: false,
-        };
-    }
-    let count = leave_all(w, by, media, timestamps, lengths, marks, out, sizes);
-    let released = release_behind(w, by, parity, rows, m);
+    let count = leave_all(w, by, store, out, sizes);
+    let released = release_behind(w, by, parity, rows);
     shift(w, by, media, timestamps, lengths, marks);
     let window = advanced(released, by, count);
-    Moved {
-        answer: Answer::Done(count, 0),
-        window,
-        changed: true,
-    }
+    Ok(Moved { count, window })
 }

@@ -6,15 +6,15 @@ use Prim.Native.Nat.{ℕ, ◌+◌, ◌*◌, ◌-◌, ◌^◌, ◌<◌}
 use native.Mathlib.Omega.{arith}
 use lib.Dec.{eqb}
 use lib.ListN.{length, set, take, drop, length-set, length-drop}
-use lib.Seq.{paste, take_all}
+use lib.Seq.{paste}
 use borrow.Author.Tests.{eqb-true, not-false}
-use Rattle.answer.specs.declared.Answer.TheVariants.{Done}
+use Rattle.std.specs.Prelude.{Option, Some, None}
+use Rattle.answer.specs.Number.{Done}
 use Rattle.sequence.specs.Lists.{head_or}
 use Rattle.rtp.specs.Rtp.{rtp_header_size, sequence_number, timestamp}
 use Rattle.rtp.specs.Fec.{parity_header_size, snbase, length_recovery, timestamp_recovery}
 use Rattle.window.specs.declared.Record.{Record}
 use Rattle.window.specs.declared.Window.{Window}
-use Rattle.window.specs.Record.{blank}
 use Rattle.window.specs.Store.{Store, stored}
 use Rattle.window.specs.Limits.{width}
 use Rattle.window.specs.Group.{position, group, is_missing, missing}
@@ -25,9 +25,9 @@ use Rattle.calls.specs.State.{State, scene, recount, rebuild, fits_over, count_s
 use Rattle.calls.specs.Accept.{recovery_of, first_free, accept_media, take_parity, accept_parity}
 use Rattle.calls.proofs.Rest.{settle-none}
 use Rattle.calls.specs.Call.{begun, settled}
-use Rattle.table.specs.View.{Row, scatter}
+use Rattle.table.specs.declared.Row.{Row}
+use Rattle.table.specs.View.{scatter}
 use Rattle.table.specs.Apart.{Fits, Alike, alike-scatter, alike-fits}
-use Rattle.table.specs.Hold.{FirstFree, gap_from}
 use Rattle.table.specs.Sound.{Sound}
 use Rattle.engine.specs.declared.Round.{Round}
 use Rattle.engine.specs.Rows.{AgainAll}
@@ -59,7 +59,7 @@ module _ (stream b : ℕ) (c : Recovery) (x : State) where
 
 -- what is taken in without a record
 abbrev pub plainly : (rebuilt spoilt : ℕ) → Window → Bool → Offered
-plainly rebuilt spoilt v changed = record { answer = Done rebuilt spoilt; window = v; changed = changed; held = false; it = blank }
+plainly rebuilt spoilt v changed = record { counts = record { count = rebuilt; spoilt = spoilt }; window = v; changed = changed; held = None }
 
 -- ---- position i becomes present
 module _ (w : Window) (x : Parts) (media timestamps lengths marks : List ℕ) (hs : List Row) (v : Window) (ev : v ≡ recount w (w.present + 1) w.in_use) where
@@ -89,7 +89,7 @@ module _ (w : Window) (x : Parts) (media timestamps lengths marks : List ℕ) (h
           let begins : scene v (over y t) b q ≡ accept (over x t) = ap (λ (u : List Record). scene v (stored media timestamps lengths marks x.parity u) b q) (alike-scatter alike t) ∙ is t f in
           s.is t fits ∙ ap settled begins;
       still = λ e t. s.still e t ∙ alike-scatter alike t;
-      low = λ e. absurd (let o : ◌≡◌ {A = Bool} true false = sym e ∙ s.free in let u : ◌≡◌ {A = ℕ} 0 1 = cc in omega arith);
+      low = λ v e. absurd (let o : ◌≡◌ {A = Option Record} (Some v) None = sym e ∙ s.free in let u : ◌≡◌ {A = ℕ} 0 1 = cc in omega arith);
     }
 
 -- settling, with the counts of what went before
@@ -113,28 +113,17 @@ went-none v x b q e = record {
 -- the packet of a media datagram
 pub media-is : (w v : Window) (g : List ℕ) (x : Parts) (t : List Record) (i stamp : ℕ) (media : List ℕ)
     → v ≡ recount w (w.present + 1) w.in_use → i ≡ position w (sequence_number g) → stamp ≡ timestamp g → media ≡ paste x.media (i * w.p) (padded w.p (take (length g - rtp_header_size) (drop rtp_header_size g))) w.p
-    → scene v (stored media (set x.timestamps i stamp) (set x.lengths i (length g - rtp_header_size)) (set x.marks i 1) x.parity (scatter x.rows t)) 0 0 ≡ accept_media g (begun w (over x t))
-media-is w v g x t i stamp media ev ei es em = rw (em, rest-is rtp_header_size g, ← length-drop rtp_header_size g, ev, es, ei)
-
--- what a parity datagram carries, as the code reads it
-abbrev pub read : (p : ℕ) → (g : List ℕ) → (stamps sizes : ℕ) → Recovery
-read p g stamps sizes =
-    record {
-      content = record { timestamp = stamps; length = sizes; payload = padded p (take (length g - parity_header_size) (drop parity_header_size g)) };
-      size = length g - parity_header_size;
-    }
-
-read_is : (p : ℕ) (g : List ℕ) (stamps sizes : ℕ) → stamps ≡ timestamp_recovery g → sizes ≡ length_recovery g → read p g stamps sizes ≡ recovery_of p g
-read_is p g stamps sizes es el = rw (es, el, rest-is parity_header_size g, length-drop parity_header_size g)
+    → scene v (stored media (set x.timestamps i stamp) (set x.lengths i (length (take (length g - rtp_header_size) (drop rtp_header_size g)))) (set x.marks i 1) x.parity (scatter x.rows t)) 0 0 ≡ accept_media g (begun w (over x t))
+media-is w v g x t i stamp media ev ei es em = rw (em, rest-is rtp_header_size g, ev, es, ei)
 
 -- the packet that a parity datagram was to rebuild
-module _ (w : Window) (stream : ℕ) (g : List ℕ) (x : Parts) (i b stamps sizes : ℕ) (ok : Bool) (media timestamps lengths marks : List ℕ)
-    (eb : b ≡ snbase g) (es : stamps ≡ timestamp_recovery g) (el : sizes ≡ length_recovery g) (one : missing x.marks (group w stream (snbase g)) ≡ i ∷ [])
-    (told : Tried w (group w stream b) i (read w.p g stamps sizes) ok x.media x.timestamps x.lengths x.marks media timestamps lengths marks) where
+module _ (w : Window) (stream : ℕ) (g : List ℕ) (x : Parts) (i b : ℕ) (ok : Bool) (media timestamps lengths marks : List ℕ)
+    (eb : b ≡ snbase g) (one : missing x.marks (group w stream (snbase g)) ≡ i ∷ []) (c : Recovery) (ec : c ≡ recovery_of w.p g)
+    (told : Tried w (group w stream b) i c ok x.media x.timestamps x.lengths x.marks media timestamps lengths marks) where
   tried : Tried w (group w stream (snbase g)) i (recovery_of w.p g) ok x.media x.timestamps x.lengths x.marks media timestamps lengths marks
   tried =
       subst (λ (n : ℕ). Tried w (group w stream n) i (recovery_of w.p g) ok x.media x.timestamps x.lengths x.marks media timestamps lengths marks) eb
-      (subst (λ (c : Recovery). Tried w (group w stream b) i c ok x.media x.timestamps x.lengths x.marks media timestamps lengths marks) (read_is w.p g stamps sizes es el) told)
+      (subst (λ (r : Recovery). Tried w (group w stream b) i r ok x.media x.timestamps x.lengths x.marks media timestamps lengths marks) ec told)
 
   taken_as : (t : List Record) → accept_parity stream g (begun w (over x t)) ≡ cond ok (rebuild (group w stream (snbase g)) (recovery_of w.p g).content i (begun w (over x t))) (count_spoilt (begun w (over x t)))
   taken_as t =
@@ -170,13 +159,9 @@ module _ (w : Window) (stream : ℕ) (g : List ℕ) (x : Parts) (i b stamps size
         same-slots = s.same-slots;
         is = λ t f. s.is t f ∙ ap settled (sym (taken_as t ∙ ap (λ (f : Bool). cond f (rebuild (group w stream (snbase g)) (recovery_of w.p g).content i (begun w (over x t))) (count_spoilt (begun w (over x t)))) bad));
         still = s.still;
-        low = λ e. absurd (let o : ◌≡◌ {A = Bool} true false = sym e ∙ s.free in let u : ◌≡◌ {A = ℕ} 0 1 = cc in omega arith);
+        low = λ v e. absurd (let o : ◌≡◌ {A = Option Record} (Some v) None = sym e ∙ s.free in let u : ◌≡◌ {A = ℕ} 0 1 = cc in omega arith);
       }
 
 -- the one packet missing of an offered parity packet's group lies in the window
 pub last_here : (w : Window) → w.base < 2 ^ width → (x : Parts) → Serves w x → (stream : ℕ) (g : List ℕ) → Inside w stream (snbase g) → (i : ℕ) → missing x.marks (group w stream (snbase g)) ≡ i ∷ [] → i < w.n
 last_here w based x serves stream g near i one = (subst (Below w.n) one (kept-below w based serves.set_up stream (snbase g) near (is_missing x.marks))).0
-
--- the first free record, where the hand is all of the rows
-pub free-is : (hs : List Row) (m : ℕ) → length hs ≡ m → (r : ℕ) → FirstFree m (take m hs) r → r ≡ gap_from 0 hs
-free-is hs m e r f = f.is ∙ ap (gap_from 0) (take_all m hs (omega (arith, e)))

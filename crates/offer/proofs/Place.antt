@@ -7,13 +7,16 @@ use native.Mathlib.Omega.{arith}
 use lib.Dec.{eqb, leb, ltb}
 use lib.ListN.{length, get_or, take, drop, length-drop}
 use borrow.Author.Tests.{lt-ltb, le-ltb, eq-eqb, ne_eqb, not-false, ltb-true, le-leb}
+use Rattle.std.specs.Prelude.{Result, Ok, Err}
+use Rattle.answer.specs.declared.Refusal.{Refusal}
+use Rattle.answer.specs.declared.Refusal.TheVariants.{Outside, Repeated, Differs, Contradicts, NoRecord}
+use Rattle.answer.specs.Refused.{refusal_number}
 use Rattle.answer.specs.First.{first, first_hit, first_past, first-end}
 use Rattle.xor.specs.Same.{same}
 use Rattle.sequence.specs.Lists.{up_to, any}
 use Rattle.rtp.specs.Rtp.{rtp_header_size, sequence_number, timestamp}
 use Rattle.rtp.specs.Fec.{parity_header_size, snbase, length_recovery, timestamp_recovery}
 use Rattle.window.specs.declared.Look.{Look}
-use Rattle.window.specs.declared.Look.TheVariants.{None}
 use Rattle.window.specs.declared.Record.{Record}
 use Rattle.window.specs.declared.Window.{Window}
 use Rattle.window.specs.Limits.{width, least_missing}
@@ -26,9 +29,9 @@ use Rattle.calls.specs.Call.{media_place_tests, parity_place_tests, same_content
 use Rattle.calls.specs.Accept.{content_of, recovery_of}
 use Rattle.calls.specs.Content.{Recovery, same_recovery, recovery_over}
 use Rattle.xor.specs.Xor.{padded}
-use Rattle.table.specs.View.{Row, scatter}
+use Rattle.table.specs.declared.Row.{Row}
+use Rattle.table.specs.View.{scatter}
 use Rattle.table.specs.Apart.{Fits}
-use Rattle.offer.specs.declared.Placed.{Placed}
 use Rattle.offer.specs.Rows.{Fitting, row_holds, row_same, Found}
 use Rattle.offer.proofs.Tests.{rest-is, rest-same}
 use Rattle.offer.proofs.Scans.{same_rows, holds_rows}
@@ -95,57 +98,52 @@ module _ (w : Window) (stream : ℕ) (g : List ℕ) (s : Store) (seen : Look) (e
   whole-group e = sym lacks_any ∙ e
 
   -- where it defines another recovery
-  pub contradicted : lacks ≡ false → (b t n : ℕ) → b ≡ snbase g → t ≡ timestamp_recovery g → n ≡ length_recovery g → (is : Bool)
-      → is ≡ same_recovery (recovery_over w s (group w stream b)) (record { content = record { timestamp = t; length = n; payload = padded w.p (take (length g - parity_header_size) (drop parity_header_size g)) }; size = length g - parity_header_size })
-      → not is ≡ contradicts w stream g s
-  contradicted e b t n eb et en is ei =
-      let carried : record { content = record { timestamp = t; length = n; payload = padded w.p (take (length g - parity_header_size) (drop parity_header_size g)) }; size = length g - parity_header_size } ≡ recovery_of w.p g =
-      λ i. record { content = record { timestamp = et i; length = en i; payload = padded w.p (rest-is parity_header_size g i) }; size = sym (length-drop parity_header_size g) i } in
-      let same : is ≡ same_recovery (recovery_over w s (group w stream (snbase g))) (recovery_of w.p g) = ei ∙ ap₂ (λ (n : ℕ) (r : Recovery). same_recovery (recovery_over w s (group w stream n)) r) eb carried in
+  pub contradicted : lacks ≡ false → (b : ℕ) → b ≡ snbase g → (c : Recovery) → c ≡ recovery_of w.p g → (is : Bool) → is ≡ same_recovery (recovery_over w s (group w stream b)) c → not is ≡ contradicts w stream g s
+  contradicted e b eb c ec is ei =
+      let same : is ≡ same_recovery (recovery_over w s (group w stream (snbase g))) (recovery_of w.p g) = ei ∙ ap₂ (λ (n : ℕ) (r : Recovery). same_recovery (recovery_over w s (group w stream n)) r) eb ec in
       rw (← lacks_any, e, same)
 
 -- the first of the tests
-module _ (w : Window) (stream : ℕ) (g media timestamps lengths marks parity : List ℕ) (hs : List Row) (m : ℕ) (long : length hs ≡ m) (b : ℕ) (eb : b ≡ snbase g) where
+module _ (w : Window) (stream : ℕ) (g media timestamps lengths marks parity : List ℕ) (hs : List Row) (b : ℕ) (eb : b ≡ snbase g) where
   -- the tests over a table
   abbrev tests : List Record → List (ℕ × Bool)
   tests t = parity_place_tests w stream g (stored media timestamps lengths marks parity (scatter hs t))
 
-  -- a number that refuses
-  abbrev no : ℕ → Placed
-  no n = record { fault = n; found = None 0 }
+  refuses : (e : Refusal) → ((t : List Record) → Fits t w.k hs → refusal_number e ≡ first (tests t)) → Found w stream g media timestamps lengths marks parity hs (Err e)
+  refuses e is = record { is = is; inside = λ f h. never f h; looked = λ f h. never f h; room = λ f h. never f h }
+    where
+      never : {A : Type 0} (f : Look) → ◌≡◌ {A = Result Look Refusal} (Err e) (Ok f) → A
+      never f h = absurd (let z : ◌≡◌ {A = ℕ} 0 1 = cc in omega arith)
 
-  refuses : (n : ℕ) → (n ≡ 0 → ⊥) → ((t : List Record) → Fits t w.k hs → n ≡ first (tests t)) → Found w stream g media timestamps lengths marks parity hs (no n)
-  refuses n h is = record { is = is; inside = λ z. absurd (h z); looked = λ z. absurd (h z); room = λ z. absurd (h z) }
+  pub no_13 : inside w stream b ≡ false → Found w stream g media timestamps lengths marks parity hs (Err Outside)
+  no_13 e = refuses Outside (λ t f. first_hit 13 _ _ (ap (λ (n : ℕ). not (inside w stream n)) (sym eb) ∙ ap not e))
 
-  pub no_13 : inside w stream b ≡ false → Found w stream g media timestamps lengths marks parity hs (no 13)
-  no_13 e = refuses 13 (λ z. omega arith) (λ t f. first_hit 13 _ _ (ap (λ (n : ℕ). not (inside w stream n)) (sym eb) ∙ ap not e))
-
-  module _ (i : inside w stream b ≡ true) (same : Bool) (es : same ≡ any (row_same w.p parity hs stream g) (up_to m)) where
+  module _ (i : inside w stream b ≡ true) (same : Bool) (es : same ≡ any (row_same w.p parity hs stream g) (up_to (length hs))) where
     beyond_13 : (t : List Record) (r : ℕ) → r ≡ first (drop 1 (tests t)) → r ≡ first (tests t)
     beyond_13 t r k = first_past r 13 _ _ (ap (λ (n : ℕ). not (inside w stream n)) (sym eb) ∙ ap not i) k
 
     same-is : (t : List Record) → Fits t w.k hs → any (holds_same w (stored media timestamps lengths marks parity (scatter hs t)) stream g) (up_to w.k) ≡ same
-    same-is t f = same_rows w stream g media timestamps lengths marks parity hs t f ∙ ap (λ (n : ℕ). any (row_same w.p parity hs stream g) (up_to n)) long ∙ sym es
+    same-is t f = same_rows w stream g media timestamps lengths marks parity hs t f ∙ sym es
 
-    pub no_14 : same ≡ true → Found w stream g media timestamps lengths marks parity hs (no 14)
-    no_14 e = refuses 14 (λ z. omega arith) (λ t f. beyond_13 t 14 (first_hit 14 _ _ (same-is t f ∙ e)))
+    pub no_14 : same ≡ true → Found w stream g media timestamps lengths marks parity hs (Err Repeated)
+    no_14 e = refuses Repeated (λ t f. beyond_13 t 14 (first_hit 14 _ _ (same-is t f ∙ e)))
 
-    module _ (other : same ≡ false) (held : Bool) (eh : held ≡ any (row_holds hs stream b) (up_to m)) where
+    module _ (other : same ≡ false) (held : Bool) (eh : held ≡ any (row_holds hs stream b) (up_to (length hs))) where
       beyond_14 : (t : List Record) → Fits t w.k hs → (r : ℕ) → r ≡ first (drop 2 (tests t)) → r ≡ first (tests t)
       beyond_14 t f r k = beyond_13 t r (first_past r 14 _ _ (same-is t f ∙ other) k)
 
       held-is : (t : List Record) → Fits t w.k hs → any (holds w (stored media timestamps lengths marks parity (scatter hs t)) stream (snbase g)) (up_to w.k) ≡ held
-      held-is t f = holds_rows w stream (snbase g) media timestamps lengths marks parity hs t f ∙ ap (λ (n : ℕ). any (row_holds hs stream (snbase g)) (up_to n)) long ∙ ap (λ (n : ℕ). any (row_holds hs stream n) (up_to m)) (sym eb) ∙ sym eh
+      held-is t f = holds_rows w stream (snbase g) media timestamps lengths marks parity hs t f ∙ ap (λ (n : ℕ). any (row_holds hs stream n) (up_to (length hs))) (sym eb) ∙ sym eh
 
-      pub no_15 : held ≡ true → Found w stream g media timestamps lengths marks parity hs (no 15)
-      no_15 e = refuses 15 (λ z. omega arith) (λ t f. beyond_14 t f 15 (first_hit 15 _ _ (held-is t f ∙ e)))
+      pub no_15 : held ≡ true → Found w stream g media timestamps lengths marks parity hs (Err Differs)
+      no_15 e = refuses Differs (λ t f. beyond_14 t f 15 (first_hit 15 _ _ (held-is t f ∙ e)))
 
       module _ (new : held ≡ false) (lie : Bool) (ec : (parity : List ℕ) (t : List Record) → lie ≡ contradicts w stream g (stored media timestamps lengths marks parity t)) where
         beyond_15 : (t : List Record) → Fits t w.k hs → (r : ℕ) → r ≡ first (drop 3 (tests t)) → r ≡ first (tests t)
         beyond_15 t f r k = beyond_14 t f r (first_past r 15 _ _ (held-is t f ∙ new) k)
 
-        pub no_18 : lie ≡ true → Found w stream g media timestamps lengths marks parity hs (no 18)
-        no_18 e = refuses 18 (λ z. omega arith) (λ t f. beyond_15 t f 18 (first_hit 18 _ _ (sym (ec parity (scatter hs t)) ∙ e)))
+        pub no_18 : lie ≡ true → Found w stream g media timestamps lengths marks parity hs (Err Contradicts)
+        no_18 e = refuses Contradicts (λ t f. beyond_15 t f 18 (first_hit 18 _ _ (sym (ec parity (scatter hs t)) ∙ e)))
 
         module _ (honest : lie ≡ false) (seen : Look) (el : seen ≡ look marks (group w stream b)) (waits : Bool) (ew : waits ≡ leb least_missing (at_least seen)) where
           beyond_18 : (t : List Record) → Fits t w.k hs → (r : ℕ) → r ≡ first (drop 4 (tests t)) → r ≡ first (tests t)
@@ -157,16 +155,19 @@ module _ (w : Window) (stream : ℕ) (g media timestamps lengths marks parity : 
           full_is : (leb least_missing (length (missing marks (group w stream (snbase g)))) && not (ltb w.in_use w.k)) ≡ (waits && not (ltb w.in_use w.k))
           full_is = ap (λ (t : Bool). t && not (ltb w.in_use w.k)) (sym (ew ∙ ap (λ (f : Look). leb least_missing (at_least f)) seen-is ∙ waits-is marks (group w stream (snbase g))))
 
-          pub no_16 : (waits && not (ltb w.in_use w.k)) ≡ true → Found w stream g media timestamps lengths marks parity hs (no 16)
-          no_16 e = refuses 16 (λ z. omega arith) (λ t f. beyond_18 t f 16 (first_hit 16 _ _ (full_is ∙ e)))
+          pub no_16 : (waits && not (ltb w.in_use w.k)) ≡ true → Found w stream g media timestamps lengths marks parity hs (Err NoRecord)
+          no_16 e = refuses NoRecord (λ t f. beyond_18 t f 16 (first_hit 16 _ _ (full_is ∙ e)))
 
-          pub none_of_them : w.base < 2 ^ width → SetUp w → (waits && not (ltb w.in_use w.k)) ≡ false → Found w stream g media timestamps lengths marks parity hs (record { fault = 0; found = seen })
+          pub none_of_them : w.base < 2 ^ width → SetUp w → (waits && not (ltb w.in_use w.k)) ≡ false → Found w stream g media timestamps lengths marks parity hs (Ok seen)
           none_of_them based u e = record {
             is = λ t f. beyond_18 t f 0 (first_past 0 16 _ _ (full_is ∙ e) first-end);
-            inside = λ _. inside_of w based u stream (snbase g) (ap (inside w stream) (sym eb) ∙ i);
-            looked = λ _. seen-is;
-            room = λ _ l. ltb-true w.in_use w.k (not-false (ltb w.in_use w.k) (past waits (not (ltb w.in_use w.k)) (ew ∙ le-leb least_missing (at_least seen) l) e));
+            inside = λ _ _. inside_of w based u stream (snbase g) (ap (inside w stream) (sym eb) ∙ i);
+            looked = λ f h. sym (found f h) ∙ seen-is;
+            room = λ f h l. ltb-true w.in_use w.k (not-false (ltb w.in_use w.k) (past waits (not (ltb w.in_use w.k)) (ew ∙ le-leb least_missing (at_least seen) (rw (found f h) l)) e));
           }
             where
+              found : (f : Look) → ◌≡◌ {A = Result Look Refusal} (Ok seen) (Ok f) → seen ≡ f
+              found f h = cc
+
               past : (a b : Bool) → a ≡ true → (a && b) ≡ false → b ≡ false
               past a b f h = rw f at h

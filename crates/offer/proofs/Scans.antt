@@ -8,7 +8,8 @@ use Rattle.window.specs.declared.Record.{Record}
 use Rattle.window.specs.declared.Window.{Window}
 use Rattle.window.specs.Store.{stored}
 use Rattle.calls.specs.Call.{holds, holds_same}
-use Rattle.table.specs.View.{Row, slot_at, scatter}
+use Rattle.table.specs.declared.Row.{Row}
+use Rattle.table.specs.View.{slot_at, scatter}
 use Rattle.table.specs.Apart.{Fits, get-scatter}
 use Rattle.table.specs.Scans.{any-rows}
 use Rattle.order.proofs.Agree.{any_same}

@@ -5,21 +5,23 @@ use mathlib.Core.List.{List, ◌++◌}
 use Prim.Native.Nat.{ℕ, ◌+◌, ◌-◌, ◌≤◌}
 use native.Mathlib.Omega.{arith}
 use lib.ListN.{length, take, drop, length-drop}
-use lib.Seq.{take_all, length-take-le}
+use lib.Seq.{take_all, length-take-le, paste}
 use Rattle.xor.specs.Xor.{padded}
 use Rattle.xor.specs.Same.{same}
-use Rattle.xor.specs.Padded.{same-padded}
+use Rattle.xor.specs.Padded.{same-padded, length-padded}
+use Rattle.std.proofs.lemmas.Slice.{put_mid-paste}
+use borrow.Rule.Slice.PartMut.{put_mid}
 use Rattle.rtp.specs.Length.{whole-high}
 use Rattle.offer.specs.Rows.{Fitting}
 use borrow.Author.Tests.{ltb-false, not-false, ne_eqb}
 use Rattle.answer.specs.First.{first, Numbered, first-none, first_stops, first_goes}
 use Rattle.rtp.specs.Rtp.{rtp_header_size}
-use Rattle.rtp.specs.Fec.{parity_header_size}
+use Rattle.rtp.specs.Fec.{parity_header_size, timestamp_recovery, length_recovery}
 use Rattle.rtp.specs.Faults.{media_tests, parity_tests}
 use Rattle.window.specs.declared.Window.{Window}
 use Rattle.window.specs.Store.{Store}
 use Rattle.calls.specs.Call.{standing_tests, media_offer_tests, parity_offer_tests, refused, settled, begun, offered_media, offered_parity}
-use Rattle.calls.specs.Accept.{accept_media, accept_parity}
+use Rattle.calls.specs.Accept.{accept_media, accept_parity, recovery_of}
 use Rattle.calls.proofs.Standing.{standing-stops, standing-goes}
 
 -- the rest of a datagram behind its headers
@@ -82,3 +84,29 @@ module _ (w : Window) (g : List ℕ) (s : Store) where
   pub parity-taken : (stream : ℕ) → 0 ≡ first (parity_offer_tests w stream g s) → settled (accept_parity stream g (begun w s)) ≡ offered_parity stream w g s
   unfolding offered_parity
   parity-taken stream e = rw (sym e)
+
+-- what a parity datagram carries, by its parts
+pub carried_is : (p : ℕ) (g : List ℕ) (t n : ℕ) (payload : List ℕ) → t ≡ timestamp_recovery g → n ≡ length_recovery g → payload ≡ drop parity_header_size g
+    → record { content = record { timestamp = t; length = n; payload = padded p payload }; size = length payload } ≡ recovery_of p g
+carried_is p g t n payload et en ep = rw (et, en, ep)
+
+-- the rest of a datagram is as long as is left of it
+pub rest-long : (h : ℕ) (g : List ℕ) → length (take (length g - h) (drop h g)) ≡ length g - h
+rest-long h g = ap length (rest-is h g) ∙ length-drop h g
+
+-- a part from a place on, as long as the rest of a datagram
+pub rest-part : (h at : ℕ) (g : List ℕ) → at + length (take (length g - h) (drop h g)) - at ≡ length g - h
+rest-part h at g = omega (arith, rest-long h g)
+
+-- a part of p elements from a place on
+pub part-long : (l : List ℕ) (at p : ℕ) → at + p ≤ length l → length (take (at + p - at) (drop at l)) ≡ p
+part-long l at p b =
+    let k : at + p - at ≡ p = omega arith in
+    rw k (length-take-le p (drop at l) (omega (arith, length-drop at l)))
+
+-- the rest of a datagram laid over such a part
+pub laid : (l g : List ℕ) (h at p : ℕ) (ys : List ℕ) → at + p ≤ length l → ys ≡ padded (length (take (at + p - at) (drop at l))) (take (length g - h) (drop h g))
+    → put_mid at (at + p - at) l ys ≡ paste l at (padded p (take (length g - h) (drop h g))) p
+laid l g h at p ys b e =
+    let k : at + p - at ≡ p = omega arith in
+    put_mid-paste at (at + p - at) l ys (padded p (take (length g - h) (drop h g))) p (e ∙ ap (λ (n : ℕ). padded n (take (length g - h) (drop h g))) (part-long l at p b)) (sym k) (sym (length-padded p (take (length g - h) (drop h g))))

@@ -1,14 +1,12 @@
 -- The ways through `opened`, and a store that is cleared part by part. Assumes nothing.
-use mathlib.Core.Path.{◌≡◌, sym, ap, ◌∙◌}
+use mathlib.Core.Path.{◌≡◌, sym, ◌∙◌}
 use mathlib.Core.Bool.{true, false}
 use mathlib.Core.List.{List, [], ◌∷◌, ◌++◌}
-use Prim.Native.Nat.{ℕ, ◌+◌, ◌*◌, ◌≤◌}
-use native.Mathlib.Nat.{zero-add}
+use Prim.Native.Nat.{ℕ, ◌*◌, ◌≤◌}
 use native.Mathlib.Omega.{arith}
-use lib.ListN.{length, take, drop, replicate, length-replicate}
-use lib.Seq.{paste, take-length}
+use lib.ListN.{length, replicate, length-replicate}
 use borrow.Author.Tests.{ne_eqb}
-use Rattle.answer.specs.declared.Answer.TheVariants.{Done, Refused}
+use Rattle.answer.specs.Number.{Done, Refused}
 use Rattle.answer.specs.First.{first, first_hit, first_past, first-end, first-none, first_stops, first_goes}
 use Rattle.window.specs.declared.Record.{Record}
 use Rattle.window.specs.declared.Sizes.{Sizes}
@@ -17,7 +15,7 @@ use Rattle.window.specs.Record.{blank}
 use Rattle.window.specs.Limits.{set_up_tests}
 use Rattle.window.specs.Store.{Store, stored, short_sizes}
 use Rattle.window.specs.Bounds.{Sized, sizes-good}
-use Rattle.calls.specs.Call.{Outcome, no_window, zeroed, wiped, cleared, open_tests, opened}
+use Rattle.calls.specs.Call.{Outcome, no_window, cleared, open_tests, opened}
 
 -- ---- the tests
 module _ (w : Window) (z : Sizes) where
@@ -32,21 +30,6 @@ module _ (w : Window) (z : Sizes) where
   -- none of them
   pub none-stops : (r : ℕ) → r ≡ first (set_up_tests w) → r ≡ 0 → short_sizes w z ≡ false → 0 ≡ first (set_up_tests w ++ ((4, short_sizes w z) ∷ []))
   none-stops r e q h = first_past 0 4 (short_sizes w z) [] h first-end ∙ first_goes (set_up_tests w) ((4, short_sizes w z) ∷ []) (tt, (tt, (tt, tt))) (sym e ∙ q)
-
--- ---- clearing
-
--- zeros pasted in from the front
-pub front-zeros : (n : ℕ) (l : List ℕ) → paste l 0 (replicate n 0) n ≡ zeroed n l
-front-zeros n l =
-    ap (λ (t : List ℕ). t ++ drop (0 + n) l) (ap (λ (k : ℕ). take k (replicate n 0)) (sym (length-replicate {A = ℕ} n 0)) ∙ take-length (replicate n 0))
-    ∙ ap (λ (k : ℕ). replicate n 0 ++ drop k l) (zero-add n)
-
--- the five parts cleared, and the records set free
-pub all-cleared : (w : Window) (media timestamps lengths marks parity m t l a p : List ℕ) → m ≡ paste media 0 (replicate (w.n * w.p) 0) (w.n * w.p) → t ≡ zeroed w.n timestamps → l ≡ zeroed w.n lengths
-    → a ≡ paste marks 0 (replicate w.n 0) w.n → p ≡ paste parity 0 (replicate (w.k * w.p) 0) (w.k * w.p)
-    → (rs : List Record) → stored m t l a p (wiped w.k rs) ≡ cleared w (stored media timestamps lengths marks parity rs)
-all-cleared w media timestamps lengths marks parity m t l a p em et el ea ep rs =
-    rw (em ∙ front-zeros (w.n * w.p) media, et, el, ea ∙ front-zeros w.n marks, ep ∙ front-zeros (w.k * w.p) parity)
 
 -- ---- opening
 

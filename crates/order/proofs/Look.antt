@@ -19,7 +19,8 @@ use Rattle.window.specs.Group.{group, inside}
 use Rattle.window.specs.Look.{look, at_least, waits-is}
 use Rattle.window.specs.Order.{used, shape_good}
 use Rattle.window.specs.Plain.{Inside, inside_of}
-use Rattle.table.specs.View.{Row, slot_at, it_at}
+use Rattle.table.specs.declared.Row.{Row}
+use Rattle.table.specs.View.{slot_at, it_at}
 use Rattle.table.specs.Note.{note_of}
 use Rattle.table.specs.Sound.{SoundRow}
 use Rattle.order.specs.declared.Looked.{Looked}
@@ -33,7 +34,7 @@ shape_inside w based u stream snbase e = inside_of w based u stream snbase (and_
 -- what is said of row i, whose record is v: whether it is free or good, 1 if it is in use, and the note of a look at its group
 abbrev pub Told : Window → (marks : List ℕ) → List Row → ℕ → Record → Bool → ℕ → ℕ → Type 0
 Told w marks hs i v good n c =
-    (good ≡ row_by w marks v (slot_at hs i) (any (names hs v) (up_to i))) × (n ≡ cond (used v) 1 0) × (c < 65536) × (good ≡ true → used v ≡ true → SoundRow w marks (record { slot = slot_at hs i; note = c; it = v }))
+    (good ≡ row_by w marks v (slot_at hs i) (any (names hs v) (up_to i))) × (n ≡ cond (used v) 1 0) × (good ≡ true → used v ≡ true → SoundRow w marks (record { slot = slot_at hs i; note = c; it = v }))
 
 no_way : {A : Type 0} → false ≡ true → A
 no_way e = absurd (let z : ◌≡◌ {A = ℕ} 0 1 = cc in omega arith)
@@ -69,7 +70,7 @@ module _ (w : Window) (marks : List ℕ) (hs : List Row) (i : ℕ) (v : Record) 
   pub free_row_lem : v.in_use ≡ 0 → Told w marks hs i (it_at hs i) true 0 0
   free_row_lem z =
       let o = ne_eqb v.in_use 1 (λ o. omega arith) in
-      told true 0 0 (cond-true _ _ (eq-eqb v.in_use 0 z), flag-no (used v) o, omega arith, λ g u. no_way (sym o ∙ u))
+      told true 0 0 (cond-true _ _ (eq-eqb v.in_use 0 z), flag-no (used v) o, λ g u. no_way (sym o ∙ u))
 
   module _ (r : Looked) (n : ℕ) (is : r ≡ record { good = false; used = n; note = 0 }) where
     -- a row that is refused
@@ -80,11 +81,11 @@ module _ (w : Window) (marks : List ℕ) (hs : List Row) (i : ℕ) (v : Record) 
   pub odd-row : (r : Looked) → r ≡ record { good = false; used = 0; note = 0 } → (v.in_use ≡ 0 → ⊥) → (v.in_use ≡ 1 → ⊥) → Told w marks hs i (it_at hs i) r.good r.used r.note
   odd-row r is z o =
       let p = ne_eqb v.in_use 1 o in
-      refused r 0 is (cond-false _ _ (ne_eqb v.in_use 0 z) (and_left _ _ p), flag-no (used v) p, omega arith, λ g u. no_way g)
+      refused r 0 is (cond-false _ _ (ne_eqb v.in_use 0 z) (and_left _ _ p), flag-no (used v) p, λ g u. no_way g)
 
   module _ (r : Looked) (is : r ≡ record { good = false; used = 1; note = 0 }) (one : v.in_use ≡ 1) where
     bad_row : (ltb (slot_at hs i) w.k && (shape_good w v.stream v.snbase && (good_length w.p v.payload_length && (not (any (names hs v) (up_to i)) && leb least_missing (missing_of w marks v))))) ≡ false → Told w marks hs i (it_at hs i) r.good r.used r.note
-    bad_row h = refused r 1 is (cond-false _ _ (ne_eqb v.in_use 0 (λ z. omega arith)) (and_right (used v) _ h), flag-yes (used v) (eq-eqb v.in_use 1 one), omega arith, λ g u. no_way g)
+    bad_row h = refused r 1 is (cond-false _ _ (ne_eqb v.in_use 0 (λ z. omega arith)) (and_right (used v) _ h), flag-yes (used v) (eq-eqb v.in_use 1 one), λ g u. no_way g)
 
     -- a slot that is none of the window's records
     pub high-row : (s : ℕ) → s ≡ slot_at hs i → w.k ≤ s → Told w marks hs i (it_at hs i) r.good r.used r.note
@@ -104,8 +105,8 @@ module _ (w : Window) (marks : List ℕ) (hs : List Row) (i : ℕ) (v : Record) 
 
   -- a row in use whose group waits, or not
   pub waiting-row : SetUp w → w.base < 2 ^ width → v.in_use ≡ 1 → (s : ℕ) → s ≡ slot_at hs i → s < w.k → (b : Bool) → b ≡ shape_good w v.stream v.snbase → not b ≡ false → (y : Bool) → y ≡ good_length w.p v.payload_length → not y ≡ false → (d : Bool) → d ≡ any (names hs v) (up_to i) → d ≡ false
-      → (f : Look) → f ≡ look marks (group w v.stream v.snbase) → (g : Bool) → g ≡ leb least_missing (at_least f) → (c : ℕ) → c ≡ note_of f → c < 65536 → Told w marks hs i (it_at hs i) g 1 c
-  waiting-row u based one s es low b eb good y ey sized d ed alone f ef g eg c ec few =
+      → (f : Look) → f ≡ look marks (group w v.stream v.snbase) → (g : Bool) → g ≡ leb least_missing (at_least f) → (c : ℕ) → c ≡ note_of f → Told w marks hs i (it_at hs i) g 1 c
+  waiting-row u based one s es low b eb good y ey sized d ed alone f ef g eg c ec =
       let l = lt-ltb (slot_at hs i) w.k (omega arith) in
       let h = sym eb ∙ not-false b good in
       let z = sym ey ∙ not-false y sized in
@@ -115,7 +116,6 @@ module _ (w : Window) (marks : List ℕ) (hs : List Row) (i : ℕ) (v : Record) 
       c (
         cond_last _ _ _ (ne_eqb v.in_use 0 (λ z. omega arith)) (and-all _ _ _ _ _ _ _ (eq-eqb v.in_use 1 one) l h z (sym ed ∙ alone) (eg ∙ ap (λ (x : Look). leb least_missing (at_least x)) ef ∙ waits-is marks (group w v.stream v.snbase))),
         flag-yes (used v) (eq-eqb v.in_use 1 one),
-        few,
         λ _ q. record { slot-low = omega arith; inside = shape_inside w based u v.stream v.snbase h; size_low = whole-high w.p w.p v.payload_length z; noted = ec ∙ ap note_of ef },
       )
     where

@@ -14,7 +14,8 @@ use Rattle.window.specs.declared.Window.{Window}
 use Rattle.window.specs.Limits.{least_missing}
 use Rattle.window.specs.Store.{Store, stored, record_at}
 use Rattle.window.specs.Order.{is_mark, used, is_in_use, same_group, shape_good, is_first, waiting, record_good, records_good}
-use Rattle.table.specs.View.{Row, slot_at, it_at, scatter}
+use Rattle.table.specs.declared.Row.{Row}
+use Rattle.table.specs.View.{slot_at, it_at, scatter}
 use Rattle.table.specs.Apart.{Fits, Alike, within, get-scatter, alike-it, alike-slot}
 use Rattle.table.specs.Scans.{all-rows, any-before, count-rows}
 use Rattle.order.specs.Rows.{names, missing_of, row_good}

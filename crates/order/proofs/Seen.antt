@@ -14,7 +14,8 @@ use Rattle.sequence.specs.Lists.{up_to, any}
 use Rattle.sequence.proofs.Lists.{false-any, and_split}
 use Rattle.window.specs.declared.Record.{Record}
 use Rattle.window.specs.Order.{used, same_group}
-use Rattle.table.specs.View.{Row, it_at}
+use Rattle.table.specs.declared.Row.{Row}
+use Rattle.table.specs.View.{it_at}
 use Rattle.table.specs.Apart.{Alike, alike-it}
 use Rattle.order.specs.Rows.{names, seen_at}
 

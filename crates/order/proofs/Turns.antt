@@ -13,7 +13,8 @@ use Rattle.sequence.proofs.Lists.{and_split, all_more, count-more}
 use Rattle.window.specs.declared.Record.{Record}
 use Rattle.window.specs.declared.Window.{Window}
 use Rattle.window.specs.Order.{used}
-use Rattle.table.specs.View.{Row, nobody, slot_at, it_at, put_note}
+use Rattle.table.specs.declared.Row.{Row}
+use Rattle.table.specs.View.{nobody, slot_at, it_at, put_note}
 use Rattle.table.specs.Apart.{Alike, alike_refl, alike_trans, alike-note, alike-it, alike-length}
 use Rattle.table.specs.Sound.{Sound, SoundRow}
 use Rattle.order.specs.Rows.{row_good}
@@ -68,7 +69,7 @@ module _ (w : Window) (marks : List ℕ) (hs : List Row) where
       noted_more l g j h =
           let s = and_split good more g in
           ⊎_elim
-          (λ (q : j ≡ i). subst (λ (k : ℕ). Right w marks (get_or (put_note gs i c) k nobody)) (sym q) (subst (Right w marks) (sym (get_or-set_same gs i here nobody l)) (told.3 s.1)))
+          (λ (q : j ≡ i). subst (λ (k : ℕ). Right w marks (get_or (put_note gs i c) k nobody)) (sym q) (subst (Right w marks) (sym (get_or-set_same gs i here nobody l)) (told.2 s.1)))
           (λ (q : j < i). subst (Right w marks) (sym (get_or-set_other gs i j here nobody (λ e. omega arith))) (t.noted s.0 j q))
           (below_or i j h)
 

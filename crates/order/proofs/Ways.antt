@@ -20,7 +20,8 @@ use Rattle.window.specs.Bounds.{set_up_good}
 use Rattle.window.specs.Group.{is_missing}
 use Rattle.window.specs.Order.{used, is_mark, is_present, marks_good, lengths_good, records_good, counts_good, disorder}
 use Rattle.calls.proofs.Standing.{set_up-stops, store-stops, order-stops, none-stops}
-use Rattle.table.specs.View.{Row, it_at, scatter}
+use Rattle.table.specs.declared.Row.{Row}
+use Rattle.table.specs.View.{it_at, scatter}
 use Rattle.table.specs.Apart.{Fits, Alike, alike_refl, alike-length, alike-it, length-scatter}
 use Rattle.table.specs.Hold.{used_rows, gap-few}
 use Rattle.table.specs.Sound.{Sound}

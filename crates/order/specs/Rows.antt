@@ -8,7 +8,8 @@ use Rattle.window.specs.Limits.{least_missing}
 use Rattle.window.specs.Store.{stored}
 use Rattle.window.specs.Group.{group, is_missing, missing}
 use Rattle.window.specs.Order.{used, same_group, shape_good, disorder}
-use Rattle.table.specs.View.{Row, slot_at, it_at, scatter}
+use Rattle.table.specs.declared.Row.{Row}
+use Rattle.table.specs.View.{slot_at, it_at, scatter}
 use Rattle.table.specs.Apart.{Fits, Alike}
 use Rattle.table.specs.Hold.{used_rows}
 use Rattle.table.specs.Sound.{Sound}

@@ -9,7 +9,8 @@ use Rattle.window.specs.Store.{stored, sizes_of}
 use Rattle.window.specs.Bounds.{SetUp}
 use Rattle.window.specs.Group.{is_missing}
 use Rattle.calls.specs.Standing.{standing_by}
-use Rattle.table.specs.View.{Row, scatter}
+use Rattle.table.specs.declared.Row.{Row}
+use Rattle.table.specs.View.{scatter}
 use Rattle.table.specs.Apart.{Apart, Alike}
 use Rattle.table.specs.Hold.{gap_from}
 use Rattle.table.specs.Sound.{Sound}

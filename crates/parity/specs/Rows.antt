@@ -15,7 +15,6 @@ abbrev pub xor_lists : List (List ℕ) → (at n : ℕ) → List ℕ → List �
 xor_lists [] at n d = d
 xor_lists (x ∷ lists) at n d = xor_lists lists at n (xor_at d at x n)
 
--- each of the first n rows ends within m bytes
-pub record Rows (rows : List ℕ) (n p m : ℕ) : Type 0 where
-  pub long : n ≤ length rows
-  pub ends : (i : ℕ) → i < n → get_or rows i 0 * p + p ≤ m
+-- each row, p bytes long, ends within m bytes
+abbrev pub Rows : List ℕ → (p m : ℕ) → Type 0
+Rows rows p m = (i : ℕ) → i < length rows → get_or rows i 0 * p + p ≤ m

@@ -8,7 +8,7 @@ use lib.Dec.{ltb}
 use lib.ListN.{length, get_or, take, drop, length-drop}
 use lib.Seq.{paste, sets}
 use borrow.Author.Tests.{lt-ltb, le-ltb, eq-eqb, ne_eqb, not-false}
-use Rattle.answer.specs.declared.Answer.TheVariants.{Done, Refused}
+use Rattle.answer.specs.Number.{Done, Refused}
 use Rattle.answer.specs.First.{first, first_hit, first_past, first-end, first-none}
 use Rattle.xor.specs.Xor.{xor_payloads, padded}
 use Rattle.rtp.specs.Rtp.{rtp_header_size, media_type, parity_type, rtp_header}
@@ -16,8 +16,9 @@ use Rattle.rtp.specs.Fec.{parity_header_size, fec_header}
 use Rattle.parity.specs.Own.{length_own, length-sum}
 use Rattle.window.specs.declared.Record.{Record}
 use Rattle.window.specs.declared.Sizes.{Sizes}
+use Rattle.window.specs.declared.StoreView.{StoreView}
 use Rattle.window.specs.declared.Window.{Window}
-use Rattle.window.specs.Store.{Store, stored, timestamp_at, length_at, payload_at}
+use Rattle.window.specs.Store.{Store, viewed, timestamp_at, length_at, payload_at}
 use Rattle.window.specs.Group.{position, group, inside, is_missing, present}
 use Rattle.calls.specs.Content.{content_at, longest, number_over}
 use Rattle.calls.specs.Datagram.{media_packet, Outer}
@@ -25,10 +26,11 @@ use Rattle.calls.specs.Call.{Written, standing_tests, over, read_tests, read_out
 use Rattle.calls.proofs.Standing.{standing-known, standing-stops, standing-goes}
 use Rattle.group.proofs.Rows.{row_ends}
 use Rattle.group.proofs.Defined.{all-present, summed}
-use Rattle.table.specs.View.{Row, scatter}
+use Rattle.table.specs.declared.Row.{Row}
+use Rattle.table.specs.View.{scatter}
 use Rattle.table.specs.Apart.{length-scatter}
 use Rattle.order.specs.Stands.{Taken, Stands, Stood}
-use Rattle.read.specs.Tests.{sizes, group_tests}
+use Rattle.read.specs.Tests.{sizes_in, group_tests}
 use Rattle.xor.specs.Laid.{laid}
 use Rattle.read.proofs.Lay.{front}
 
@@ -47,9 +49,9 @@ pub short-is : {w : Window} {z : Sizes} {lengths marks : List ℕ} {hs hs' : Lis
 short-is a b e s = rw e at s
 
 -- what the code finds is what they say of every table
-pub said : (w : Window) (media timestamps lengths marks parity : List ℕ) (len : ℕ) (hs hs' : List Row) (room need r : ℕ) → Stood w (sizes media timestamps lengths marks parity len) (ltb room need) lengths marks hs hs' r
-    → (t : List Record) → length t ≡ len → Taken t w.k hs → r ≡ first (standing_tests w (stored media timestamps lengths marks parity (scatter hs t)) room need)
-said w media timestamps lengths marks parity len hs hs' room need r s t e k = s.is media timestamps parity t (rw (length-scatter hs t, e)) k
+pub said : (w : Window) (v : StoreView) (len : ℕ) (hs hs' : List Row) (room need r : ℕ) → Stood w (sizes_in v len) (ltb room need) v.lengths.now v.marks.now hs hs' r
+    → (t : List Record) → length t ≡ len → Taken t w.k hs → r ≡ first (standing_tests w (viewed v (scatter hs t)) room need)
+said w v len hs hs' room need r s t e k = s.is v.media.now v.timestamps.now v.parity.now t (rw (length-scatter hs t, e)) k
 
 -- behind them: what a position holds is no longer than P
 pub held_low : {w : Window} {z : Sizes} {short : Bool} {hs : List Row} (lengths marks : List ℕ) → Stands w z short lengths marks hs → (i : ℕ) → i < w.n → (get_or marks i 0 ≡ 0 → ⊥) → (size : ℕ) → size ≡ get_or lengths i 0 → size ≤ w.p

@@ -1,107 +1,92 @@
 #![tactic(auto)]
 
 // Reading out: a packet that the window holds as a media datagram, and a group that it holds whole as a parity datagram.
-// The records, which only refusal 5 looks at, are the m rows of a hand; the lent table has `len` of them.
+// The records, which only refusal 5 looks at, are the rows of a hand; the lent table has `len` of them.
 ghost use Rattle.std.specs.Prelude.{◌≡◌, List, ◌+◌, ◌≤◌, ltb, length};
 ghost use Rattle.answer.specs.First.{first};
+ghost use Rattle.answer.specs.Refused.{fault_of, written_as};
 ghost use Rattle.window.specs.declared.Record.{Record};
-ghost use Rattle.window.specs.Store.{stored};
+ghost use Rattle.window.specs.Store.{viewed};
 ghost use Rattle.window.specs.Bounds.{SetUp};
 ghost use Rattle.calls.specs.Call.{read_out, wrote_parity};
-ghost use Rattle.table.specs.View.{hand, scatter};
+ghost use Rattle.table.specs.View.{scatter};
 ghost use Rattle.order.specs.Stands.{Taken, Stood};
-ghost use Rattle.read.specs.Tests.{sizes, group_tests};
+ghost use Rattle.read.specs.Tests.{sizes_in, group_tests};
 
-use answer::Answer;
-use window::{Sizes, Window};
+use answer::Refusal;
+use table::Row;
+use window::{Sizes, StoreView, Window};
 
-// The first of refusals 1 to 5 that applies, or 0; the output has `room` bytes and needs headers and a payload.
-fn standing(
+// Refusals 1 to 5, in this order; the output has `room` bytes and needs headers and a payload.
+fn check_standing(
     w: Window,
     room: usize,
     headers: usize,
-    media: &[u8],
-    timestamps: &[u32],
-    lengths: &[u16],
-    marks: &[u8],
-    parity: &[u8],
-    rows: &mut [u32],
-    m: usize,
+    store: StoreView,
+    rows: &mut [Row],
     len: usize,
-) -> u8
-    requires { length (hand rows.old) ≡ m }
-    ensures { Stood w (sizes media.now timestamps.now lengths.now marks.now parity.now len) (ltb room (headers + w.p)) lengths.now marks.now (hand rows.old) (hand rows.new) result }
+) -> Result<(), Refusal>
+    ensures { Stood w (sizes_in store.entry len) (ltb room (headers + w.p)) store.entry.lengths.now store.entry.marks.now rows.old rows.new (fault_of result) }
 {
-    let z = Sizes {
-        media: media.len(),
-        timestamps: timestamps.len(),
-        lengths: lengths.len(),
-        marks: marks.len(),
-        parity: parity.len(),
-        records: len,
-    };
+    let z = Sizes::of(
+        store.media,
+        store.timestamps,
+        store.lengths,
+        store.marks,
+        store.parity,
+        len,
+    );
     let short = order::short_output(room, headers, w.p);
-    order::standing_fault(w, z, short, lengths, marks, rows, m)
+    order::check_standing(w, z, short, store.lengths, store.marks, rows)
 }
 
-// The media packet of a number, written to the front of `out`, with the window's SSRC.
+// The media packet of a number, written to the front of `out`, with the window's SSRC; how many bytes that are.
 pub fn read_out(
     w: Window,
     number: u16,
-    media: &[u8],
-    timestamps: &[u32],
-    lengths: &[u16],
-    marks: &[u8],
-    parity: &[u8],
-    rows: &mut [u32],
-    m: usize,
+    store: StoreView,
+    rows: &mut [Row],
     len: usize,
     out: &mut [u8],
-) -> Answer
-    requires { length (hand rows.old) ≡ m }
-    ensures { (t : List Record) → length t ≡ len → Taken t w.k (hand rows.old) → record { answer = result; window = w; out = out.new }
-        ≡ read_out w number (stored media.now timestamps.now lengths.now marks.now parity.now (scatter (hand rows.old) t)) out.old }
+) -> Result<usize, Refusal>
+    ensures { (t : List Record) → length t ≡ len → Taken t w.k rows.old → record { answer = written_as result; window = w; out = out.new }
+        ≡ read_out w number (viewed store.entry (scatter rows.old t)) out.old }
 {
-    let room = out.len();
     let to = rtp::RTP_HEADER;
-    let fault = standing(
-        w, room, to, media, timestamps, lengths, marks, parity, rows, m, len,
-    );
-    if fault != 0 {
-        return Answer::Refused(fault);
-    }
-    let p = w.p;
+    check_standing(w, out.len(), to, store, rows, len)?;
     let i = sequence::position(w.base, number) as usize;
     if w.n <= i {
-        return Answer::Refused(13);
+        return Err(Refusal::Outside);
     }
-    if marks[i] == 0 {
-        return Answer::Refused(17);
+    if store.marks[i] == 0 {
+        return Err(Refusal::Missing);
     }
-    let size = rtp::wide(lengths[i]);
-    xor::copy_at(out, to, media, i * p, size);
-    rtp::write_rtp(out, rtp::MEDIA_TYPE, number, timestamps[i], w.ssrc);
-    Answer::Done(to + size, 0)
+    let at = i * w.p;
+    let size = rtp::wide(store.lengths[i]);
+    let payload = &store.media[at..at + size];
+    out[to..to + size].copy_from_slice(payload);
+    rtp::write_rtp(out, rtp::MEDIA_TYPE, number, store.timestamps[i], w.ssrc);
+    Ok(to + size)
 }
 
-// The first of refusals 12, 13 and 17 that applies to the group of a stream that starts at SNBase, or 0.
-fn group_fault(w: Window, stream: u8, snbase: u16, marks: &[u8]) -> u8
+// Refusals 12, 13 and 17 of the group of a stream that starts at SNBase, in this order.
+fn check_group(w: Window, stream: u8, snbase: u16, marks: &[u8]) -> Result<(), Refusal>
     requires { SetUp w × (w.n ≤ length marks.now) }
-    ensures { result ≡ first (group_tests w stream snbase marks.now) }
+    ensures { fault_of result ≡ first (group_tests w stream snbase marks.now) }
 {
     if rtp::no_row(stream, w.l) {
-        return 12;
+        return Err(Refusal::OtherProfile);
     }
     if !w.group_inside(stream, snbase) {
-        return 13;
+        return Err(Refusal::Outside);
     }
     if window::lacks(group::look(w, marks, stream, snbase)) {
-        return 17;
+        return Err(Refusal::Missing);
     }
-    0
+    Ok(())
 }
 
-// The parity packet of a group that is present, written to the front of `out`, with the caller's RTP numbers.
+// The parity packet of a group that is present, written to the front of `out`, with the caller's RTP numbers; how many bytes that are.
 pub fn write_parity(
     stream: u8,
     w: Window,
@@ -109,44 +94,27 @@ pub fn write_parity(
     sequence: u16,
     timestamp: u32,
     ssrc: u32,
-    media: &[u8],
-    timestamps: &[u32],
-    lengths: &[u16],
-    marks: &[u8],
-    parity: &[u8],
-    rows: &mut [u32],
-    m: usize,
+    store: StoreView,
+    rows: &mut [Row],
     len: usize,
     out: &mut [u8],
-) -> Answer
-    requires { (stream ≤ 1) × (length (hand rows.old) ≡ m) }
-    ensures { (t : List Record) → length t ≡ len → Taken t w.k (hand rows.old) → record { answer = result; window = w; out = out.new }
-        ≡ wrote_parity stream w snbase (record { sequence = sequence; timestamp = timestamp; ssrc = ssrc }) (stored media.now timestamps.now lengths.now marks.now parity.now (scatter (hand rows.old) t)) out.old }
+) -> Result<usize, Refusal>
+    requires { stream ≤ 1 }
+    ensures { (t : List Record) → length t ≡ len → Taken t w.k rows.old → record { answer = written_as result; window = w; out = out.new }
+        ≡ wrote_parity stream w snbase (record { sequence = sequence; timestamp = timestamp; ssrc = ssrc }) (viewed store.entry (scatter rows.old t)) out.old }
 {
-    let room = out.len();
-    let fault = standing(
-        w,
-        room,
-        rtp::PARITY_HEADERS,
-        media,
-        timestamps,
-        lengths,
-        marks,
-        parity,
-        rows,
-        m,
-        len,
-    );
-    if fault != 0 {
-        return Answer::Refused(fault);
-    }
-    let own = group_fault(w, stream, snbase, marks);
-    if own != 0 {
-        return Answer::Refused(own);
-    }
     let to = rtp::PARITY_HEADERS;
+    check_standing(w, out.len(), to, store, rows, len)?;
+    check_group(w, stream, snbase, store.marks)?;
     let r = group::sum_up(
-        out, to, w, stream, snbase, media, timestamps, lengths, marks,
+        &mut out[to..],
+        w,
+        stream,
+        snbase,
+        store.media,
+        store.timestamps,
+        store.lengths,
+        store.marks,
     );
     rtp::write_parity(
         out,
@@ -160,5 +128,5 @@ pub fn write_parity(
         timestamp,
         ssrc,
     );
-    Answer::Done(to + r.size, 0)
+    Ok(to + r.size)
 }

@@ -4,19 +4,20 @@
 // beside the answer; a call ends on every input, and a refused one changes nothing.
 //
 // The card lends the store. Of its table of records a call gets a hand, the records in use, each with its slot (crate
-// `table`): m rows at the front of some words, with room for one row more. A call's cost goes with what is in hand.
-ghost use Rattle.std.specs.Prelude.{◌≡◌, true, List, ◌+◌, ◌*◌, ◌≤◌, length};
+// `table`): the first m of some rows, with room for one more. A call's cost goes with what is in hand.
+ghost use Rattle.std.specs.Prelude.{◌≡◌, true, List, ◌<◌, ◌≤◌, length};
 ghost use Rattle.rtp.specs.Fec.{column, row};
 ghost use Rattle.window.specs.declared.Record.{Record};
 ghost use Rattle.window.specs.Limits.{most_records};
 ghost use Rattle.window.specs.Store.{stored};
-ghost use Rattle.table.specs.View.{row_words};
+ghost use Rattle.answer.specs.Refused.{answer_of, written_as};
 ghost use Rattle.calls.specs.Call.{asked, wiped, opened, offered_media, offered_parity, read_out, wrote_parity};
 ghost use Rattle.calls.specs.Move.{moved};
 ghost use Rattle.receiver.specs.Step.{Stepped, Wrote, Advanced};
 
-use answer::Answer;
-use window::Window;
+use answer::{Counts, Refusal};
+use table::Row;
+use window::{StoreView, Window};
 
 // A window value.
 #[derive(Clone, Copy)]
@@ -27,7 +28,7 @@ pub struct Receiver {
 // The answer, the next window value, how many rows the hand has now, and whether the records differ from what they were.
 #[derive(Clone, Copy)]
 pub struct Step {
-    pub answer: Answer,
+    pub answer: Result<Counts, Refusal>,
     pub receiver: Receiver,
     pub rows: usize,
     pub changed: bool,
@@ -36,13 +37,13 @@ pub struct Step {
 // The answer to an opening, the window value, and how many records of the table are to be set free.
 #[derive(Clone, Copy)]
 pub struct Opening {
-    pub answer: Answer,
+    pub answer: Result<Counts, Refusal>,
     pub receiver: Receiver,
     pub records: usize,
 }
 
 // The answer with the next window value beside it.
-fn handed(answer: Answer, window: Window, rows: usize, changed: bool) -> Step
+fn handed(answer: Result<Counts, Refusal>, window: Window, rows: usize, changed: bool) -> Step
     ensures { result ≡ record { answer = answer; receiver = record { window = window }; rows = rows; changed = changed } }
 {
     Step {
@@ -53,18 +54,23 @@ fn handed(answer: Answer, window: Window, rows: usize, changed: bool) -> Step
     }
 }
 
-// A hand of m rows and room for one more lies in `len` words.
-fn has_room(len: usize, m: usize) -> bool
-    ensures { (result ≡ true → (m ≤ most_records) × ((m + 1) * row_words ≤ len)) × ((m ≤ most_records) × ((m + 1) * row_words ≤ len) → result ≡ true) }
+// The answer of a call that writes: its count is of bytes.
+fn counted(written: Result<usize, Refusal>) -> Result<Counts, Refusal>
+    ensures { answer_of result ≡ written_as written }
 {
-    if window::MOST_RECORDS < m {
-        return false;
-    }
-    (m + 1) * table::ROW <= len
+    let count = written?;
+    Ok(Counts { count, spoilt: 0 })
+}
+
+// A hand of m rows and one more lies in `len` rows.
+fn has_room(len: usize, m: usize) -> bool
+    ensures { (result ≡ true → (m ≤ most_records) × (m < len)) × ((m ≤ most_records) × (m < len) → result ≡ true) }
+{
+    m <= window::MOST_RECORDS && m < len
 }
 
 // A parity datagram is offered on the port of a stream.
-fn offer_parity(
+pub fn offer_parity(
     w: Window,
     stream: u8,
     datagram: &[u8],
@@ -73,83 +79,55 @@ fn offer_parity(
     lengths: &mut [u16],
     marks: &mut [u8],
     parity: &mut [u8],
-    words: &mut [u32],
+    rows: &mut [Row],
     m: usize,
     len: usize,
 ) -> Step
-    ensures { Stepped (offered_parity stream w datagram.now) w.k len m media.old timestamps.old lengths.old marks.old parity.old words.old
-        media.new timestamps.new lengths.new marks.new parity.new words.new result }
+    ensures { Stepped (offered_parity stream w datagram.now) w.k len m media.old timestamps.old lengths.old marks.old parity.old rows.old
+        media.new timestamps.new lengths.new marks.new parity.new rows.new result }
 {
-    if !has_room(words.len(), m) {
-        return handed(Answer::Refused(4), w, m, false);
+    if !has_room(rows.len(), m) {
+        return handed(Err(Refusal::TooShort), w, m, false);
     }
-    let e = m * table::ROW;
-    let r = offer::offer_parity(
-        w,
-        stream,
-        datagram,
-        media,
-        timestamps,
-        lengths,
-        marks,
-        parity,
-        &mut words[..e],
-        m,
-        len,
-    );
-    let answer = r.answer;
-    let window = r.window;
-    let it = r.it;
-    if !r.held {
-        return handed(answer, window, m, r.changed);
-    }
-    let n = table::hold(words, m, it);
-    handed(answer, window, n, true)
+    let hand = &mut rows[..m];
+    let r = match offer::offer_parity(
+        w, stream, datagram, media, timestamps, lengths, marks, parity, hand, len,
+    ) {
+        Ok(r) => r,
+        Err(e) => return handed(Err(e), w, m, false),
+    };
+    let Some(v) = r.held else {
+        return handed(Ok(r.counts), r.window, m, r.changed);
+    };
+    let n = table::hold(rows, m, v);
+    handed(Ok(r.counts), r.window, n, true)
 }
 
 // The parity packet of a group of a stream is written to the front of `out`.
-fn write_parity(
+pub fn write_parity(
     stream: u8,
     w: Window,
     snbase: u16,
     sequence: u16,
     timestamp: u32,
     ssrc: u32,
-    media: &[u8],
-    timestamps: &[u32],
-    lengths: &[u16],
-    marks: &[u8],
-    parity: &[u8],
-    words: &mut [u32],
+    store: StoreView,
+    rows: &mut [Row],
     m: usize,
     len: usize,
     out: &mut [u8],
 ) -> Step
     requires { stream ≤ 1 }
-    ensures { Wrote (wrote_parity stream w snbase (record { sequence = sequence; timestamp = timestamp; ssrc = ssrc })) w.k len m media.now timestamps.now lengths.now marks.now parity.now words.old out.old out.new result }
+    ensures { Wrote (wrote_parity stream w snbase (record { sequence = sequence; timestamp = timestamp; ssrc = ssrc })) w.k len m store.entry rows.old out.old out.new result }
 {
-    if !has_room(words.len(), m) {
-        return handed(Answer::Refused(4), w, m, false);
+    if !has_room(rows.len(), m) {
+        return handed(Err(Refusal::TooShort), w, m, false);
     }
-    let e = m * table::ROW;
-    let answer = read::write_parity(
-        stream,
-        w,
-        snbase,
-        sequence,
-        timestamp,
-        ssrc,
-        media,
-        timestamps,
-        lengths,
-        marks,
-        parity,
-        &mut words[..e],
-        m,
-        len,
-        out,
+    let hand = &mut rows[..m];
+    let written = read::write_parity(
+        stream, w, snbase, sequence, timestamp, ssrc, store, hand, len, out,
     );
-    handed(answer, w, m, false)
+    handed(counted(written), w, m, false)
 }
 
 impl Receiver {
@@ -171,7 +149,7 @@ impl Receiver {
         len: usize,
     ) -> Opening
         ensures { (result.records ≤ len) × ((t : List Record) → length t ≡ len
-            → record { answer = result.answer; window = result.receiver.window; store = stored media.new timestamps.new lengths.new marks.new parity.new (wiped result.records t) }
+            → record { answer = answer_of result.answer; window = result.receiver.window; store = stored media.new timestamps.new lengths.new marks.new parity.new (wiped result.records t) }
             ≡ opened (asked base ssrc l d p n k) (stored media.old timestamps.old lengths.old marks.old parity.old t)) }
     {
         let r = open::open(
@@ -195,33 +173,24 @@ impl Receiver {
         lengths: &mut [u16],
         marks: &mut [u8],
         parity: &mut [u8],
-        words: &mut [u32],
+        rows: &mut [Row],
         m: usize,
         len: usize,
     ) -> Step
-        ensures { Stepped (offered_media self.window datagram.now) self.window.k len m media.old timestamps.old lengths.old marks.old parity.old words.old
-            media.new timestamps.new lengths.new marks.new parity.new words.new result }
+        ensures { Stepped (offered_media self.window datagram.now) self.window.k len m media.old timestamps.old lengths.old marks.old parity.old rows.old
+            media.new timestamps.new lengths.new marks.new parity.new rows.new result }
     {
         let w = self.window;
-        if !has_room(words.len(), m) {
-            return handed(Answer::Refused(4), w, m, false);
+        if !has_room(rows.len(), m) {
+            return handed(Err(Refusal::TooShort), w, m, false);
         }
-        let e = m * table::ROW;
-        let r = offer::offer_media(
-            w,
-            datagram,
-            media,
-            timestamps,
-            lengths,
-            marks,
-            parity,
-            &mut words[..e],
-            m,
-            len,
-        );
-        let answer = r.answer;
-        let window = r.window;
-        handed(answer, window, m, r.changed)
+        let hand = &mut rows[..m];
+        match offer::offer_media(
+            w, datagram, media, timestamps, lengths, marks, parity, hand, len,
+        ) {
+            Ok(r) => handed(Ok(r.counts), r.window, m, r.changed),
+            Err(e) => handed(Err(e), w, m, false),
+        }
     }
 
     // A column parity datagram is offered.
@@ -233,12 +202,12 @@ impl Receiver {
         lengths: &mut [u16],
         marks: &mut [u8],
         parity: &mut [u8],
-        words: &mut [u32],
+        rows: &mut [Row],
         m: usize,
         len: usize,
     ) -> Step
-        ensures { Stepped (offered_parity column self.window datagram.now) self.window.k len m media.old timestamps.old lengths.old marks.old parity.old words.old
-            media.new timestamps.new lengths.new marks.new parity.new words.new result }
+        ensures { Stepped (offered_parity column self.window datagram.now) self.window.k len m media.old timestamps.old lengths.old marks.old parity.old rows.old
+            media.new timestamps.new lengths.new marks.new parity.new rows.new result }
     {
         let w = self.window;
         offer_parity(
@@ -250,7 +219,7 @@ impl Receiver {
             lengths,
             marks,
             parity,
-            words,
+            rows,
             m,
             len,
         )
@@ -265,12 +234,12 @@ impl Receiver {
         lengths: &mut [u16],
         marks: &mut [u8],
         parity: &mut [u8],
-        words: &mut [u32],
+        rows: &mut [Row],
         m: usize,
         len: usize,
     ) -> Step
-        ensures { Stepped (offered_parity row self.window datagram.now) self.window.k len m media.old timestamps.old lengths.old marks.old parity.old words.old
-            media.new timestamps.new lengths.new marks.new parity.new words.new result }
+        ensures { Stepped (offered_parity row self.window datagram.now) self.window.k len m media.old timestamps.old lengths.old marks.old parity.old rows.old
+            media.new timestamps.new lengths.new marks.new parity.new rows.new result }
     {
         let w = self.window;
         offer_parity(
@@ -282,7 +251,7 @@ impl Receiver {
             lengths,
             marks,
             parity,
-            words,
+            rows,
             m,
             len,
         )
@@ -292,37 +261,21 @@ impl Receiver {
     pub fn read(
         self,
         number: u16,
-        media: &[u8],
-        timestamps: &[u32],
-        lengths: &[u16],
-        marks: &[u8],
-        parity: &[u8],
-        words: &mut [u32],
+        store: StoreView,
+        rows: &mut [Row],
         m: usize,
         len: usize,
         out: &mut [u8],
     ) -> Step
-        ensures { Wrote (read_out self.window number) self.window.k len m media.now timestamps.now lengths.now marks.now parity.now words.old out.old out.new result }
+        ensures { Wrote (read_out self.window number) self.window.k len m store.entry rows.old out.old out.new result }
     {
         let w = self.window;
-        if !has_room(words.len(), m) {
-            return handed(Answer::Refused(4), w, m, false);
+        if !has_room(rows.len(), m) {
+            return handed(Err(Refusal::TooShort), w, m, false);
         }
-        let e = m * table::ROW;
-        let answer = read::read_out(
-            w,
-            number,
-            media,
-            timestamps,
-            lengths,
-            marks,
-            parity,
-            &mut words[..e],
-            m,
-            len,
-            out,
-        );
-        handed(answer, w, m, false)
+        let hand = &mut rows[..m];
+        let written = read::read_out(w, number, store, hand, len, out);
+        handed(counted(written), w, m, false)
     }
 
     // The parity datagram of the column that starts at a number is written to the front of `out`.
@@ -332,17 +285,13 @@ impl Receiver {
         sequence: u16,
         timestamp: u32,
         ssrc: u32,
-        media: &[u8],
-        timestamps: &[u32],
-        lengths: &[u16],
-        marks: &[u8],
-        parity: &[u8],
-        words: &mut [u32],
+        store: StoreView,
+        rows: &mut [Row],
         m: usize,
         len: usize,
         out: &mut [u8],
     ) -> Step
-        ensures { Wrote (wrote_parity column self.window snbase (record { sequence = sequence; timestamp = timestamp; ssrc = ssrc })) self.window.k len m media.now timestamps.now lengths.now marks.now parity.now words.old out.old out.new result }
+        ensures { Wrote (wrote_parity column self.window snbase (record { sequence = sequence; timestamp = timestamp; ssrc = ssrc })) self.window.k len m store.entry rows.old out.old out.new result }
     {
         let w = self.window;
         write_parity(
@@ -352,12 +301,8 @@ impl Receiver {
             sequence,
             timestamp,
             ssrc,
-            media,
-            timestamps,
-            lengths,
-            marks,
-            parity,
-            words,
+            store,
+            rows,
             m,
             len,
             out,
@@ -371,17 +316,13 @@ impl Receiver {
         sequence: u16,
         timestamp: u32,
         ssrc: u32,
-        media: &[u8],
-        timestamps: &[u32],
-        lengths: &[u16],
-        marks: &[u8],
-        parity: &[u8],
-        words: &mut [u32],
+        store: StoreView,
+        rows: &mut [Row],
         m: usize,
         len: usize,
         out: &mut [u8],
     ) -> Step
-        ensures { Wrote (wrote_parity row self.window snbase (record { sequence = sequence; timestamp = timestamp; ssrc = ssrc })) self.window.k len m media.now timestamps.now lengths.now marks.now parity.now words.old out.old out.new result }
+        ensures { Wrote (wrote_parity row self.window snbase (record { sequence = sequence; timestamp = timestamp; ssrc = ssrc })) self.window.k len m store.entry rows.old out.old out.new result }
     {
         let w = self.window;
         write_parity(
@@ -391,12 +332,8 @@ impl Receiver {
             sequence,
             timestamp,
             ssrc,
-            media,
-            timestamps,
-            lengths,
-            marks,
-            parity,
-            words,
+            store,
+            rows,
             m,
             len,
             out,
@@ -413,36 +350,31 @@ impl Receiver {
         lengths: &mut [u16],
         marks: &mut [u8],
         parity: &mut [u8],
-        words: &mut [u32],
+        rows: &mut [Row],
         m: usize,
         len: usize,
         out: &mut [u8],
         sizes: &mut [u16],
     ) -> Step
-        ensures { Advanced (λ s. moved self.window by s out.old sizes.old) self.window.k len m media.old timestamps.old lengths.old marks.old parity.old words.old
-            media.new timestamps.new lengths.new marks.new parity.new words.new out.new sizes.new result }
+        ensures { Advanced (λ s. moved self.window by s out.old sizes.old) self.window.k len m media.old timestamps.old lengths.old marks.old parity.old rows.old
+            media.new timestamps.new lengths.new marks.new parity.new rows.new out.new sizes.new result }
     {
         let w = self.window;
-        if !has_room(words.len(), m) {
-            return handed(Answer::Refused(4), w, m, false);
+        if !has_room(rows.len(), m) {
+            return handed(Err(Refusal::TooShort), w, m, false);
         }
-        let e = m * table::ROW;
-        let r = moving::advance(
-            w,
-            by,
-            media,
-            timestamps,
-            lengths,
-            marks,
-            parity,
-            &mut words[..e],
-            m,
-            len,
-            out,
-            sizes,
-        );
-        let answer = r.answer;
-        let next = r.window;
-        handed(answer, next, m, r.changed)
+        let hand = &mut rows[..m];
+        match moving::advance(
+            w, by, media, timestamps, lengths, marks, parity, hand, len, out, sizes,
+        ) {
+            Ok(r) => {
+                let counts = Counts {
+                    count: r.count,
+                    spoilt: 0,
+                };
+                handed(Ok(counts), r.window, m, true)
+            }
+            Err(e) => handed(Err(e), w, m, false),
+        }
     }
 }

@@ -1,5 +1,5 @@
 -- A header whose set-up no refusal applies to has small numbers. Assumes nothing.
-use Rattle.std.proofs.Common.{◌≡◌, ℕ, ◌+◌, ◌*◌, ◌≤◌, List, sym, ap, subst, ◌∙◌, mul-le-mul, arith}
+use Rattle.std.proofs.Common.{◌≡◌, ℕ, ◌+◌, ◌*◌, ◌≤◌, List, sym, ap, subst, mul-le-mul, arith}
 use Rattle.answer.specs.First.{first}
 use Rattle.capture.specs.declared.Header.{Header}
 use Rattle.capture.specs.Content.{most_entries}
@@ -14,11 +14,11 @@ pub record Small (h : Header) : Type 0 where
   pub k-high : h.k ≤ most_records
   pub p-high : h.p ≤ 1428
 
-pub small : (h : Header) (w : Window) (fault : ℕ)
+pub small : (h : Header) (w : Window)
     → w ≡ record { base = h.base; ssrc = 0; l = h.l; d = h.d; p = h.p; n = h.n; k = h.k; present = 0; in_use = 0 }
-    → fault ≡ first (set_up_tests w) → fault ≡ 0 → Small h
-small h w fault e f z =
-    let g = set_up_good w (sym f ∙ z) in
+    → 0 ≡ first (set_up_tests w) → Small h
+small h w e f =
+    let g = set_up_good w (sym f) in
     record {
       n-high = subst (λ (m : ℕ). m ≤ most_positions) (ap (λ (v : Window). v.n) e) g.n-high;
       k-high = subst (λ (m : ℕ). m ≤ most_records) (ap (λ (v : Window). v.k) e) g.k-high;

@@ -1,78 +1,35 @@
 // What comes in: the file that the first argument names, read in pieces.
-ghost use Rattle.std.specs.Prelude.{◌+◌, ◌≤◌, length};
+ghost use Rattle.std.specs.Prelude.{◌≤◌, length, IfOk};
 
-use capture::{Reader, Reading};
+use answer::Refusal;
+use capture::{Header, Reader, Reading};
 use std::io::Read;
 use std::rt::{Env, Files};
 use std::{fs, str};
 
 // Opens the file that the first argument names, where there is one that can be opened. A path has 4,095 bytes at most.
 pub fn open_argument<R: Env + Files>(rt: &R) -> Option<R::File> {
-    let mut path = [0u8; 4096];
+    let mut path = [0; 4096];
     let length = rt.arg(1, &mut path).ok()?;
     let name = str::from_utf8(&path[..length]).ok()?;
     fs::open(rt, name).ok()
 }
 
-// Before the first piece.
-pub fn begin() -> Reader {
-    Reader {
-        stage: 0,
-        left: 0,
-        next: 0,
-        sum: 0,
-        at: 0,
-        size: 0,
-    }
-}
-
-// A reading that nothing mends.
-fn broken() -> Reading {
-    let reader = Reader {
-        stage: 3,
-        left: 0,
-        next: 0,
-        sum: 0,
-        at: 0,
-        size: 0,
-    };
-    Reading { number: 21, reader }
-}
-
-// Reads on: a piece of which so many bytes were due. Where fewer came the file ended or a read failed, and what comes after them is not
-// to be taken for their rest.
-pub fn read_due(reader: Reader, piece: &[u8], due: usize) -> Reading {
+// Reads on: a piece of which so many bytes were due. Where fewer came the file ended or a read failed, and it is no capture file.
+pub fn read_due(reader: Reader, piece: &[u8], due: usize) -> Result<Reading, Refusal> {
     if piece.len() < due {
-        return broken();
+        return Err(Refusal::NoCapture);
     }
-    load::read(reader, piece)
+    Ok(load::read(reader, piece))
 }
 
-// The smaller of two numbers.
-pub fn least(a: usize, b: usize) -> usize
-    ensures { (result ≤ a) × (result ≤ b) }
+// Reads until buf is full, the file ends or a read fails, and answers how many bytes came. A `while`: each read says how far it came.
+pub fn fill(file: &mut impl Read, buf: &mut [u8]) -> usize
+    ensures { result ≤ length buf.old }
 {
-    if a < b { a } else { b }
-}
-
-// Reads once into the part of buf between two places, and answers how many bytes came: none at the end of the file, and none where
-// the read fails.
-fn more(file: &mut impl Read, buf: &mut [u8], from: usize, to: usize) -> usize
-    requires { (from ≤ to) × (to ≤ length buf.old) }
-    ensures { from + result ≤ to }
-{
-    file.read(&mut buf[from..to]).unwrap_or(0)
-}
-
-// Reads into buf between two places, until that is full or the file ends, and answers the place that was reached.
-pub fn fill(file: &mut impl Read, buf: &mut [u8], from: usize, to: usize) -> usize
-    ensures in_bounds { result ≤ length buf.new }
-    ensures at_most { result ≤ to }
-{
-    let end = least(to, buf.len());
-    let mut at = least(from, end);
-    while at < end {
-        let got = more(file, buf, at, end);
+    let mut at = 0;
+    while at < buf.len() {
+        let got = file.read(&mut buf[at..]).unwrap_or(0);
         if got == 0 {
             return at;
         }
@@ -81,21 +38,47 @@ pub fn fill(file: &mut impl Read, buf: &mut [u8], from: usize, to: usize) -> usi
     at
 }
 
-// Reads the rest of the file, which may be nothing, and answers 0 where all of it is a capture file, else 21. Each read brings a byte
-// or is the last one, and a file is refused, and not read on, after 772,108 bytes at the latest.
-pub fn rest(file: &mut impl Read, before: Reading) -> u32 {
-    let mut piece = [0u8; 1500];
+// Reads header and table to the front of a file.
+pub fn read_front(
+    file: &mut impl Read,
+    front: &mut [u8; 4108],
+) -> Result<(Header, Reading), Refusal>
+    ensures { IfOk result (λ r. r.0.count ≤ 512) }
+{
+    let head = fill(file, &mut front[..12]);
+    let h = load::header_of(front);
+    if head < 12 || h.number != 0 {
+        return Err(Refusal::NoCapture);
+    }
+    let due = 12 + 8 * h.count;
+    let end = 12 + fill(file, &mut front[12..due]);
+    let reading = read_due(Reader::default(), &front[..end], due)?;
+    Ok((h, reading))
+}
+
+// The file ends where a reading stands. Its number and its stage are numbers, since the C interface has them.
+fn end(r: Reading) -> Result<(), Refusal> {
+    if r.number == 0 {
+        Ok(())
+    } else {
+        Err(Refusal::NoCapture)
+    }
+}
+
+// Reads the rest of the file, which may be nothing, and refuses it where all of it is no capture file. Each read brings a byte or is
+// the last one, and a file is refused, and not read on, after 772,108 bytes at the latest.
+pub fn rest(file: &mut impl Read, before: Reading) -> Result<(), Refusal> {
+    let mut piece = [0; 1500];
     let mut r = before;
     for _ in 0..1000000u32 {
-        let reader = r.reader;
-        if reader.stage == 3 {
-            return 21;
+        if r.reader.stage == 3 {
+            return Err(Refusal::NoCapture);
         }
         match file.read(&mut piece) {
-            Err(_) => return 21,
-            Ok(0) => return r.number,
-            Ok(n) => r = load::read(reader, &piece[..n]),
+            Err(_) => return Err(Refusal::NoCapture),
+            Ok(0) => return end(r),
+            Ok(n) => r = load::read(r.reader, &piece[..n]),
         }
     }
-    21
+    Err(Refusal::NoCapture)
 }

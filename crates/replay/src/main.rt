@@ -5,14 +5,37 @@
 // too small for "too big". Where what is printed cannot be written, the error ends the program.
 mod input;
 mod play;
-mod text;
 
-ghost use Rattle.std.specs.Prelude.{◌≡◌};
+ghost use Rattle.std.specs.Prelude.{◌≡◌, ◌≤◌, IfOk};
 
-use capture::{Header, Reading};
+use answer::{Counts, Refusal};
+use capture::Header;
 use std::io;
 use std::io::Read;
 use window::Window;
+
+// Why a file is not replayed.
+#[derive(Clone, Copy)]
+enum Stop {
+    // it is no capture file, or no window has its numbers
+    Refused(Refusal),
+    // the buffers are too small for it
+    TooBig,
+}
+
+impl From<Refusal> for Stop {
+    fn from(r: Refusal) -> Stop {
+        Stop::Refused(r)
+    }
+}
+
+// What a replay comes to: how many offers there were, and how many packets are present in the end, of how many.
+#[derive(Clone, Copy)]
+struct Played {
+    offers: usize,
+    present: usize,
+    positions: usize,
+}
 
 // The window that a header asks for.
 fn window_of(h: Header) -> Window
@@ -20,76 +43,77 @@ fn window_of(h: Header) -> Window
 {
     Window {
         base: h.base,
-        ssrc: 0,
         l: h.l,
         d: h.d,
         p: h.p,
         n: h.n,
         k: h.k,
-        present: 0,
-        in_use: 0,
+        ..Window::default()
     }
 }
 
-// The rest of the file is read, and then a number is said, or 21.
-fn say_whole(
-    rt: &impl Print,
-    file: &mut impl Read,
-    reading: Reading,
-    number: u32,
-) -> io::Result<()> {
-    let bad = input::rest(file, reading);
-    if bad != 0 {
-        return text::say_number(rt, bad);
-    }
-    text::say_number(rt, number)
-}
-
-// The rest of the file is read, and then that it is too big is said, or 21.
-fn say_big(rt: &impl Print, file: &mut impl Read, reading: Reading) -> io::Result<()> {
-    let bad = input::rest(file, reading);
-    if bad != 0 {
-        return text::say_number(rt, bad);
-    }
-    text::say_too_big(rt)
-}
-
-// Header and table were read: what stands in the way, or the offers.
-fn judge(
-    rt: &impl Print,
-    file: &mut impl Read,
-    front: &[u8],
-    h: Header,
-    reading: Reading,
-) -> io::Result<()> {
-    let w = window_of(h);
-    let fault = w.set_up_fault();
-    if fault != 0 {
-        return say_whole(rt, file, reading, fault as u32);
-    }
+// What stands in the way of a header's numbers, or how many bytes its media need: media and parity share 40,960.
+fn judge(h: Header) -> Result<usize, Stop>
+    ensures { IfOk result (λ bytes. bytes ≤ 40960) }
+{
+    window_of(h).check_set_up()?;
     if 40960 < (h.n + h.k) * h.p {
-        return say_big(rt, file, reading);
+        return Err(Stop::TooBig);
     }
-    play::play_sized(rt, file, front, h, reading, h.n * h.p)
+    Ok(h.n * h.p)
 }
 
-// Header and table are read; what comes after is read as it is offered.
-fn replay(rt: &impl Print, file: &mut impl Read) -> io::Result<()> {
-    let mut front = [0u8; 4108];
-    let head = input::fill(file, &mut front, 0, 12);
-    let h = load::header_of(&front);
-    if (head < 12) | (h.number != 0) {
-        return text::say_number(rt, 21);
+// Header and table are read; what comes after is read as it is offered, or where something stands in the way as far as it has to be to
+// know that it is a capture file.
+fn replay(
+    file: &mut impl Read,
+    answers: &mut [Result<Counts, Refusal>; 512],
+) -> Result<Played, Stop> {
+    let mut front = [0; 4108];
+    let (h, reading) = input::read_front(file, &mut front)?;
+    match judge(h) {
+        Ok(for_media) => Ok(Played {
+            offers: h.count,
+            present: play::play(file, &front, h, reading, for_media, answers)?,
+            positions: h.n,
+        }),
+        Err(stop) => {
+            input::rest(file, reading)?;
+            Err(stop)
+        }
     }
-    let due = 12 + 8 * h.count;
-    let end = input::fill(file, &mut front, 12, due);
-    let reading = input::read_due(input::begin(), &front[..end], due);
-    judge(rt, file, &front, h, reading)
+}
+
+// The line of each offer: its answer, and how many packets it rebuilt.
+fn say_answers(rt: &impl Print, answers: &[Result<Counts, Refusal>]) -> io::Result<()> {
+    for a in answers {
+        println!(rt; "{} {}", answer::number(*a), answer::count(*a))?;
+    }
+    Ok(())
+}
+
+// What became of a file.
+fn say(
+    rt: &impl Print,
+    played: Result<Played, Stop>,
+    answers: &[Result<Counts, Refusal>; 512],
+) -> io::Result<()> {
+    match played {
+        Ok(p) => {
+            say_answers(rt, &answers[..p.offers.min(512)])?;
+            println!(rt; "present {} of {}", p.present, p.positions)
+        }
+        Err(Stop::Refused(r)) => println!(rt; "{}", u8::from(r)),
+        Err(Stop::TooBig) => println!(rt; "too big"),
+    }
 }
 
 fn main(rt: HostRuntime) -> io::Result<()> {
-    match input::open_argument(&rt) {
-        Some(mut file) => replay(&rt, &mut file),
-        None => text::say_number(&rt, 21),
-    }
+    // the lines are held back until the last byte of the file was read
+    let mut answers = [Err(Refusal::NoCapture); 512];
+    let played = match input::open_argument(&rt) {
+        Some(mut file) => replay(&mut file, &mut answers),
+        None => Err(Stop::Refused(Refusal::NoCapture)),
+    };
+    say(&rt, played, &answers)
 }

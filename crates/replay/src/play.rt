@@ -1,292 +1,115 @@
 // The offers of a capture file, each to the port that it came in on, into a window of the header's numbers.
 ghost use Rattle.std.specs.Prelude.{◌≤◌};
-ghost use Rattle.window.specs.Limits.{most_records};
 
+use answer::{Counts, Refusal};
 use capture::{Header, Reading};
-use receiver::{Receiver, Step};
-use std::io;
+use receiver::{Opening, Receiver, Step};
 use std::io::Read;
+use table::Row;
+use window::Record;
 
-// Where a replay stands: what was read, the window, and how much text there is.
+// What a window is lent beside media and parity. The table of records is kept as rows, row i at slot i, with room for one row more.
 #[derive(Clone, Copy)]
-struct Stand {
-    reading: Reading,
-    receiver: Receiver,
-    said: usize,
+struct Store {
+    timestamps: [u32; 400],
+    lengths: [u16; 400],
+    marks: [u8; 400],
+    rows: [Row; 129],
 }
 
-// The records, all of them in hand: a free row at each slot, and room for one row more.
-fn free_rows(k: usize) -> [u32; 516]
-    requires { k ≤ most_records }
-{
-    let mut words = [0u32; 516];
-    for i in 0..k {
-        table::put_row(&mut words, i, i as u32, 0, window::free_record());
+// Rows at their slots, of records that are free.
+fn free_rows() -> [Row; 129] {
+    let mut rows = [Row::default(); 129];
+    for i in 0..rows.len() {
+        rows[i] = Row {
+            slot: i as u16,
+            note: 0,
+            it: Record::default(),
+        };
     }
-    words
+    rows
 }
 
-// A datagram goes to a port.
-fn hand_in(
-    w: Receiver,
-    port: u8,
-    datagram: &[u8],
-    media: &mut [u8],
-    timestamps: &mut [u32],
-    lengths: &mut [u16],
-    marks: &mut [u8],
-    parity: &mut [u8],
-    words: &mut [u32],
-    k: usize,
-) -> Step {
-    if port == 1 {
-        return w.media(
-            datagram, media, timestamps, lengths, marks, parity, words, k, k,
-        );
+impl Store {
+    // Nothing is present.
+    fn new() -> Store {
+        Store {
+            timestamps: [0; 400],
+            lengths: [0; 400],
+            marks: [0; 400],
+            rows: free_rows(),
+        }
     }
-    if port == 2 {
-        return w.column(
-            datagram, media, timestamps, lengths, marks, parity, words, k, k,
-        );
-    }
-    w.row(
-        datagram, media, timestamps, lengths, marks, parity, words, k, k,
-    )
-}
 
-// Entry i: its body is read and offered, and a line is put down.
-fn offer_entry(
-    file: &mut impl Read,
-    front: &[u8],
-    i: usize,
-    k: usize,
-    s: Stand,
-    media: &mut [u8],
-    timestamps: &mut [u32],
-    lengths: &mut [u16],
-    marks: &mut [u8],
-    parity: &mut [u8],
-    words: &mut [u32],
-    text: &mut [u8],
-) -> Stand {
-    let mut body = [0u8; 1500];
-    let e = load::entry_of(front, i);
-    let got = crate::input::fill(file, &mut body, 0, e.length);
-    let before = s.reading;
-    let reading = crate::input::read_due(before.reader, &body[..got], e.length);
-    let w = s.receiver;
-    let step = hand_in(
-        w,
-        e.port,
-        &body[..got],
-        media,
-        timestamps,
-        lengths,
-        marks,
-        parity,
-        words,
-        k,
-    );
-    let answer = step.answer;
-    let said = crate::text::put_answer(text, s.said, answer);
-    let receiver = step.receiver;
-    Stand {
-        reading,
-        receiver,
-        said,
+    // A window of the header's numbers is opened.
+    fn open(&mut self, h: Header, media: &mut [u8], parity: &mut [u8]) -> Opening {
+        Receiver::open(
+            h.base,
+            0,
+            h.l,
+            h.d,
+            h.p,
+            h.n,
+            h.k,
+            media,
+            &mut self.timestamps,
+            &mut self.lengths,
+            &mut self.marks,
+            parity,
+            h.k,
+        )
+    }
+
+    // A datagram goes to a port, which is a number as the file has it: g the datagram, m media, p parity, and k records, all of them in
+    // hand.
+    fn offer(
+        &mut self,
+        w: Receiver,
+        port: u8,
+        g: &[u8],
+        m: &mut [u8],
+        p: &mut [u8],
+        k: usize,
+    ) -> Step {
+        let t = &mut self.timestamps;
+        let s = &mut self.lengths;
+        let a = &mut self.marks;
+        let h = &mut self.rows;
+        match port {
+            1 => w.media(g, m, t, s, a, p, h, k, k),
+            2 => w.column(g, m, t, s, a, p, h, k, k),
+            _ => w.row(g, m, t, s, a, p, h, k, k),
+        }
     }
 }
 
-// The lines and the total, where the file ends as a capture file has to.
-fn finish(
-    rt: &impl Print,
+// Plays the entries of a file into a window over media and parity, which share 40,960 bytes, and so many of them are for media: each is
+// read as it is offered, and then the rest of the file. What each was answered goes into answers; the result is how many packets are
+// present in the end.
+pub fn play(
     file: &mut impl Read,
-    s: Stand,
-    text: &[u8],
-    n: usize,
-) -> io::Result<()> {
-    let number = crate::input::rest(file, s.reading);
-    if number != 0 {
-        return crate::text::say_number(rt, number);
+    front: &[u8],
+    h: Header,
+    before: Reading,
+    for_media: usize,
+    answers: &mut [Result<Counts, Refusal>; 512],
+) -> Result<usize, Refusal>
+    requires { (h.count ≤ 512) × (for_media ≤ 40960) }
+{
+    let mut room = [0; 40960];
+    let (media, parity) = room.split_at_mut(for_media);
+    let mut store = Store::new();
+    let mut receiver = store.open(h, media, parity).receiver;
+    let mut reading = before;
+    for i in 0..h.count {
+        let mut body = [0; 1500];
+        let e = load::entry_of(front, i);
+        let got = crate::input::fill(file, &mut body[..e.length.min(1500)]);
+        reading = crate::input::read_due(reading.reader, &body[..got], e.length)?;
+        let step = store.offer(receiver, e.port, &body[..got], media, parity, h.k);
+        receiver = step.receiver;
+        answers[i] = step.answer;
     }
-    let said = crate::input::least(s.said, text.len());
-    rt.write_all(&text[..said])?;
-    let receiver = s.receiver;
-    let window = receiver.window;
-    crate::text::say_present(rt, window.present, n)
-}
-
-// All entries, one after the other.
-fn offer_all(
-    file: &mut impl Read,
-    front: &[u8],
-    count: usize,
-    k: usize,
-    before: Stand,
-    media: &mut [u8],
-    timestamps: &mut [u32],
-    lengths: &mut [u16],
-    marks: &mut [u8],
-    parity: &mut [u8],
-    words: &mut [u32],
-    text: &mut [u8],
-) -> Stand {
-    let mut s = before;
-    for i in 0..count {
-        s = offer_entry(
-            file, front, i, k, s, media, timestamps, lengths, marks, parity, words, text,
-        );
-    }
-    s
-}
-
-// A window is opened over the room for media and for parity that is lent, and the entries are offered.
-fn play(
-    rt: &impl Print,
-    file: &mut impl Read,
-    front: &[u8],
-    h: Header,
-    reading: Reading,
-    media: &mut [u8],
-    parity: &mut [u8],
-) -> io::Result<()>
-    requires { h.k ≤ most_records }
-{
-    let mut timestamps = [0u32; 400];
-    let mut lengths = [0u16; 400];
-    let mut marks = [0u8; 400];
-    let mut words = free_rows(h.k);
-    let mut text = [0u8; 3200];
-    let opening = Receiver::open(
-        h.base,
-        0,
-        h.l,
-        h.d,
-        h.p,
-        h.n,
-        h.k,
-        media,
-        &mut timestamps,
-        &mut lengths,
-        &mut marks,
-        parity,
-        h.k,
-    );
-    let receiver = opening.receiver;
-    let before = Stand {
-        reading,
-        receiver,
-        said: 0,
-    };
-    let after = offer_all(
-        file,
-        front,
-        h.count,
-        h.k,
-        before,
-        media,
-        &mut timestamps,
-        &mut lengths,
-        &mut marks,
-        parity,
-        &mut words,
-        &mut text,
-    );
-    finish(rt, file, after, &text, h.n)
-}
-
-// Media and parity share 40,960 bytes. Two parts of one buffer cannot be lent at once, so there are two buffers, of the first of five
-// pairs of sizes that holds the media; the parity then has room in the other.
-fn play_1(
-    rt: &impl Print,
-    file: &mut impl Read,
-    front: &[u8],
-    h: Header,
-    reading: Reading,
-) -> io::Result<()>
-    requires { h.k ≤ most_records }
-{
-    let mut media = [0u8; 8192];
-    let mut parity = [0u8; 40960];
-    play(rt, file, front, h, reading, &mut media, &mut parity)
-}
-
-fn play_2(
-    rt: &impl Print,
-    file: &mut impl Read,
-    front: &[u8],
-    h: Header,
-    reading: Reading,
-) -> io::Result<()>
-    requires { h.k ≤ most_records }
-{
-    let mut media = [0u8; 16384];
-    let mut parity = [0u8; 32768];
-    play(rt, file, front, h, reading, &mut media, &mut parity)
-}
-
-fn play_3(
-    rt: &impl Print,
-    file: &mut impl Read,
-    front: &[u8],
-    h: Header,
-    reading: Reading,
-) -> io::Result<()>
-    requires { h.k ≤ most_records }
-{
-    let mut media = [0u8; 24576];
-    let mut parity = [0u8; 24576];
-    play(rt, file, front, h, reading, &mut media, &mut parity)
-}
-
-fn play_4(
-    rt: &impl Print,
-    file: &mut impl Read,
-    front: &[u8],
-    h: Header,
-    reading: Reading,
-) -> io::Result<()>
-    requires { h.k ≤ most_records }
-{
-    let mut media = [0u8; 32768];
-    let mut parity = [0u8; 16384];
-    play(rt, file, front, h, reading, &mut media, &mut parity)
-}
-
-fn play_5(
-    rt: &impl Print,
-    file: &mut impl Read,
-    front: &[u8],
-    h: Header,
-    reading: Reading,
-) -> io::Result<()>
-    requires { h.k ≤ most_records }
-{
-    let mut media = [0u8; 40960];
-    let mut parity = [0u8; 8192];
-    play(rt, file, front, h, reading, &mut media, &mut parity)
-}
-
-// Plays into the pair of buffers that fits, for so many bytes of media.
-pub fn play_sized(
-    rt: &impl Print,
-    file: &mut impl Read,
-    front: &[u8],
-    h: Header,
-    reading: Reading,
-    media: usize,
-) -> io::Result<()>
-    requires { h.k ≤ most_records }
-{
-    if media <= 8192 {
-        play_1(rt, file, front, h, reading)
-    } else if media <= 16384 {
-        play_2(rt, file, front, h, reading)
-    } else if media <= 24576 {
-        play_3(rt, file, front, h, reading)
-    } else if media <= 32768 {
-        play_4(rt, file, front, h, reading)
-    } else {
-        play_5(rt, file, front, h, reading)
-    }
+    crate::input::rest(file, reading)?;
+    Ok(receiver.window.present)
 }

@@ -5,11 +5,14 @@
 ghost use Rattle.std.specs.Prelude.{◌≡◌, [], ◌∷◌, ◌++◌, ◌+◌, ◌/◌, ◌%◌, ◌<◌, ◌≤◌, eqb, length};
 ghost use Rattle.std.proofs.lemmas.List.Edits.{sets};
 ghost use Rattle.answer.specs.First.{first};
+ghost use Rattle.answer.specs.Refused.{fault_of};
 ghost use Rattle.rtp.specs.Bytes.{byte, be16, be32, bytes32};
 ghost use Rattle.rtp.specs.Rtp as header;
 ghost use Rattle.rtp.specs.Fec as fec;
 ghost use Rattle.rtp.specs.Length.{unit, whole_units, good_length};
 ghost use Rattle.rtp.specs.Faults.{bad_rtp, bad_fec, bad_recovery, bad_profile, no_row, media_tests, parity_tests};
+
+use answer::Refusal;
 
 pub const RTP_HEADER: usize = 12;
 
@@ -27,21 +30,21 @@ pub const ROW: u8 = 1;
 pub fn byte_at(g: &[u8], i: usize) -> u8
     ensures { result ≡ byte g.now i }
 {
-    if i < g.len() { g[i] } else { 0 }
+    g.get(i).copied().unwrap_or(0)
 }
 
 // Two bytes as a number, the first the higher.
 pub fn join16(a: u8, b: u8) -> u16
     ensures { result ≡ be16 a b }
 {
-    (a as u16) * 256 + (b as u16)
+    u16::from_be_bytes([a, b])
 }
 
 // Four bytes as a number, the first the highest.
 pub fn join32(a: u8, b: u8, c: u8, d: u8) -> u32
     ensures { result ≡ be32 a b c d }
 {
-    (((a as u32) * 256 + (b as u32)) * 256 + (c as u32)) * 256 + (d as u32)
+    u32::from_be_bytes([a, b, c, d])
 }
 
 // ---- the RTP header
@@ -290,51 +293,51 @@ pub fn bad_profile(g: &[u8], stream: u8, l: usize, d: usize) -> bool
         | no_row(stream, l)
 }
 
-// The first of refusals 6 to 9 that applies to a media datagram, or 0.
-pub fn media_fault(g: &[u8], p: usize) -> u8
-    ensures { result ≡ first (media_tests p g.now) }
+// Refusals 6 to 9 of a media datagram, in this order.
+pub fn check_media(g: &[u8], p: usize) -> Result<(), Refusal>
+    ensures { fault_of result ≡ first (media_tests p g.now) }
 {
     if g.len() < RTP_HEADER {
-        return 6;
+        return Err(Refusal::NoHeader);
     }
     if bad_rtp(g) {
-        return 7;
+        return Err(Refusal::BadRtp);
     }
     if payload_type(g) != MEDIA_TYPE {
-        return 8;
+        return Err(Refusal::OtherType);
     }
     if !good_length(p, g.len() - RTP_HEADER) {
-        return 9;
+        return Err(Refusal::BadLength);
     }
-    0
+    Ok(())
 }
 
-// The first of refusals 6 to 12 that applies to a parity datagram on the port of a stream, or 0.
-pub fn parity_fault(g: &[u8], stream: u8, l: usize, d: usize, p: usize) -> u8
-    ensures { result ≡ first (parity_tests stream l d p g.now) }
+// Refusals 6 to 12 of a parity datagram on the port of a stream, in this order.
+pub fn check_parity(g: &[u8], stream: u8, l: usize, d: usize, p: usize) -> Result<(), Refusal>
+    ensures { fault_of result ≡ first (parity_tests stream l d p g.now) }
 {
     if g.len() < PARITY_HEADERS {
-        return 6;
+        return Err(Refusal::NoHeader);
     }
     if bad_rtp(g) {
-        return 7;
+        return Err(Refusal::BadRtp);
     }
     if payload_type(g) != PARITY_TYPE {
-        return 8;
+        return Err(Refusal::OtherType);
     }
     if !good_length(p, g.len() - PARITY_HEADERS) {
-        return 9;
+        return Err(Refusal::BadLength);
     }
     if bad_fec(g) {
-        return 10;
+        return Err(Refusal::BadFec);
     }
     if bad_recovery(g, stream, l, d) {
-        return 11;
+        return Err(Refusal::BadRecovery);
     }
     if bad_profile(g, stream, l, d) {
-        return 12;
+        return Err(Refusal::OtherProfile);
     }
-    0
+    Ok(())
 }
 
 // ---- writing
@@ -343,14 +346,14 @@ pub fn parity_fault(g: &[u8], stream: u8, l: usize, d: usize, p: usize) -> u8
 pub fn high(x: u16) -> u8
     ensures { result ≡ x / 256 % 256 }
 {
-    (x / 256 % 256) as u8
+    x.to_be_bytes()[0]
 }
 
 // The lower byte of a number of 16 bits.
 pub fn low(x: u16) -> u8
     ensures { result ≡ x % 256 }
 {
-    (x % 256) as u8
+    x.to_be_bytes()[1]
 }
 
 // Four bytes from a place on.

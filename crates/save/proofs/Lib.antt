@@ -1,4 +1,3 @@
-pub mod Turns
-pub mod Fit
 pub mod Lay
+pub mod Sum
 pub mod Writes

@@ -1,25 +1,31 @@
 -- Writing a file, one way through the definition at a time. Assumes nothing.
-use mathlib.Core.Path.{◌≡◌, sym, ap, ◌∙◌}
-use mathlib.Core.Bool.{true, false}
-use mathlib.Core.List.{List, ◌++◌}
-use Prim.Native.Nat.{ℕ, ◌+◌, ◌≤◌, ◌<◌}
-use native.Mathlib.Omega.{arith}
-use borrow.Author.Tests.{lt-ltb, le-ltb}
-use lib.ListN.{length, take, drop}
-use lib.Seq.{sets, paste, take-length}
+use Rattle.std.proofs.Common.{◌≡◌, refl, Bool, cond, Some, None, sym, ap, ◌∙◌, true, false, List, ◌++◌, ℕ, ◌+◌, ◌≤◌, ◌<◌, arith, lt-ltb, le-ltb, length, take, drop}
+use Rattle.std.proofs.Math.Seq.{sets, paste, take-length}
 use Rattle.answer.specs.First.{first}
 use Rattle.xor.specs.Laid.{laid}
-use Rattle.capture.specs.Content.{most_entries, header, table_end, file_of}
+use Rattle.capture.specs.Content.{header, table_end, file_of}
 use Rattle.capture.specs.Calls.{Parts, content_of_parts, entries_fit, numbers_fit, lines, Filed, wrote}
 use Rattle.capture.specs.Parts.{front_of}
-use Rattle.capture.proofs.Parts.{fit, length_front, file_of-parts, length_of_parts, total-small}
+use Rattle.capture.proofs.Parts.{fit, length_front, file_of-parts, length_of_parts}
+use Rattle.save.specs.declared.SetUp.{SetUp}
+use Rattle.save.specs.SetUp.{set_up_of}
 use Rattle.save.proofs.Lay.{sets_append}
 
--- the need of a file is small
-pub small_need : (ports lengths : List ℕ) (bytes : ℕ) → entries_fit ports lengths bytes ≡ true → (length ports ≤ most_entries) × (bytes ≤ 768000)
-small_need ports lengths bytes e =
-    let f = fit ports lengths bytes e in
-    (f.few, omega (arith, f.same, f.few, f.adds_up, total-small lengths f.good_lengths))
+-- the numbers of a set-up, where they fit their fields and where they do not
+module _ (base l d p n k : ℕ) where
+  pub set_up-some : (u : SetUp) → Some u ≡ set_up_of base l d p n k → (numbers_fit l d p base n k ≡ true) × (u ≡ record { base = base; l = l; d = d; p = p; n = n; k = k })
+  set_up-some u e = go (numbers_fit l d p base n k) refl
+    where
+      go : (b : Bool) → numbers_fit l d p base n k ≡ b → (b ≡ true) × (u ≡ record { base = base; l = l; d = d; p = p; n = n; k = k })
+      go true f = let z = e ∙ ap (λ (t : Bool). cond t (Some (record { base = base; l = l; d = d; p = p; n = n; k = k })) None) f in (refl, cc)
+      go false f = let z = e ∙ ap (λ (t : Bool). cond t (Some (record { base = base; l = l; d = d; p = p; n = n; k = k })) None) f in absurd (cc)
+
+  pub set_up-none : None ≡ set_up_of base l d p n k → numbers_fit l d p base n k ≡ false
+  set_up-none e = go (numbers_fit l d p base n k) refl
+    where
+      go : (b : Bool) → numbers_fit l d p base n k ≡ b → b ≡ false
+      go true f = let z = e ∙ ap (λ (t : Bool). cond t (Some (record { base = base; l = l; d = d; p = p; n = n; k = k })) None) f in absurd (cc)
+      go false f = refl
 
 -- a refusal leaves the output as it was
 abbrev no : (number : ℕ) → List ℕ → Filed

@@ -7,41 +7,43 @@ ghost use Rattle.std.proofs.lemmas.List.Edits.{sets};
 ghost use Rattle.std.proofs.Math.Seq.{paste};
 ghost use Rattle.sequence.specs.Lists.{all};
 ghost use Rattle.capture.specs.Content.{header, line_of, table_end, most_entries};
-ghost use Rattle.capture.specs.Calls.{good_port, short_body, total, entries_fit, numbers_fit, lines, wrote};
+ghost use Rattle.capture.specs.Calls.{good_port, short_body, total, entries_fit, lines, wrote};
+ghost use Rattle.save.specs.SetUp.{set_up_of};
+ghost use Rattle.save.specs.Written.{written_of};
 
+use answer::Refusal;
 use capture::Written;
+
+// The numbers of a set-up, each as wide as its field.
+#[derive(Clone, Copy)]
+struct SetUp {
+    base: u16,
+    l: u8,
+    d: u8,
+    p: u16,
+    n: u16,
+    k: u16,
+}
 
 // A port is 1, 2 or 3.
 fn good_port(port: u8) -> bool
     ensures { result ≡ good_port port }
 {
-    (1 <= port) & (port <= 3)
+    matches!(port, 1..=3)
 }
 
 // Every port is one.
 fn good_ports(ports: &[u8]) -> bool
     ensures { result ≡ all good_port ports.now }
 {
-    let mut is = true;
-    let mut i = 0;
-    while i < ports.len() {
-        is = is & good_port(ports[i]);
-        i += 1;
-    }
-    is
+    ports.iter().all(|&port| good_port(port))
 }
 
 // No body is too long.
 fn short_bodies(lengths: &[u16]) -> bool
     ensures { result ≡ all short_body lengths.now }
 {
-    let mut is = true;
-    let mut i = 0;
-    while i < lengths.len() {
-        is = is & (lengths[i] <= 1500);
-        i += 1;
-    }
-    is
+    lengths.iter().all(|&size| size <= 1500)
 }
 
 // All lengths together.
@@ -49,50 +51,56 @@ fn total(lengths: &[u16]) -> usize
     requires { length lengths.now ≤ most_entries }
     ensures { result ≡ total lengths.now }
 {
-    let mut sum = 0;
-    let mut i = 0;
-    while i < lengths.len() {
-        sum += rtp::wide(lengths[i]);
-        i += 1;
-    }
-    sum
+    lengths.iter().map(|&size| size as usize).sum()
 }
 
 // The lists are those of entries that a file can hold.
 fn entries_fit(ports: &[u8], lengths: &[u16], bodies: usize) -> bool
     ensures { result ≡ entries_fit ports.now lengths.now bodies }
 {
-    if ports.len() != lengths.len() {
-        return false;
-    }
-    if 512 < ports.len() {
-        return false;
-    }
-    good_ports(ports) & short_bodies(lengths) & (total(lengths) == bodies)
+    ports.len() == lengths.len()
+        && ports.len() <= 512
+        && good_ports(ports)
+        && short_bodies(lengths)
+        && total(lengths) == bodies
 }
 
-// The numbers fit their fields.
-fn numbers_fit(l: usize, d: usize, p: usize, base: usize, n: usize, k: usize) -> bool
-    ensures { result ≡ numbers_fit l d p base n k }
+// The numbers as wide as their fields, where they fit.
+fn set_up(base: u16, l: usize, d: usize, p: usize, n: usize, k: usize) -> Option<SetUp>
+    ensures { result ≡ set_up_of base l d p n k }
 {
-    (l < 256) & (d < 256) & (p < 65536) & (base < 65536) & (n < 65536) & (k < 65536)
+    Some(SetUp {
+        base,
+        l: u8::try_from(l).ok()?,
+        d: u8::try_from(d).ok()?,
+        p: u16::try_from(p).ok()?,
+        n: u16::try_from(n).ok()?,
+        k: u16::try_from(k).ok()?,
+    })
 }
 
 // The header.
-fn put_header(out: &mut [u8], count: u16, l: u8, d: u8, p: u16, base: u16, n: u16, k: u16)
+fn put_header(out: &mut [u8], count: u16, u: SetUp)
     requires { 12 ≤ length out.old }
-    ensures { out.new ≡ sets out.old 0 (header count l d p base n k) }
+    ensures { out.new ≡ sets out.old 0 (header count u.l u.d u.p u.base u.n u.k) }
 {
-    rtp::put4(out, 0, rtp::high(count), rtp::low(count), l, d);
+    rtp::put4(out, 0, rtp::high(count), rtp::low(count), u.l, u.d);
     rtp::put4(
         out,
         4,
-        rtp::high(p),
-        rtp::low(p),
-        rtp::high(base),
-        rtp::low(base),
+        rtp::high(u.p),
+        rtp::low(u.p),
+        rtp::high(u.base),
+        rtp::low(u.base),
     );
-    rtp::put4(out, 8, rtp::high(n), rtp::low(n), rtp::high(k), rtp::low(k));
+    rtp::put4(
+        out,
+        8,
+        rtp::high(u.n),
+        rtp::low(u.n),
+        rtp::high(u.k),
+        rtp::low(u.k),
+    );
 }
 
 // A line of the table.
@@ -110,41 +118,51 @@ fn put_table(out: &mut [u8], ports: &[u8], lengths: &[u16])
     ensures { out.new ≡ sets out.old 12 (lines (table_end (length ports.now)) ports.now lengths.now) }
 {
     let mut next = 12 + 8 * ports.len();
-    let mut i = 0;
-    while i < ports.len() {
+    for i in 0..ports.len() {
         put_line(out, 12 + 8 * i, ports[i], lengths[i], next as u32);
-        next += rtp::wide(lengths[i]);
-        i += 1;
+        next += lengths[i] as usize;
     }
 }
 
 // Header, table and bodies at the front of an output that has room for them.
-fn put_file(
+fn put_file(u: SetUp, ports: &[u8], lengths: &[u16], bodies: &[u8], out: &mut [u8])
+    requires { (length ports.now ≡ length lengths.now) × (length ports.now ≤ most_entries) × (table_end (length ports.now) + length bodies.now ≤ length out.old) }
+    ensures { out.new ≡ sets (sets (paste out.old (table_end (length ports.now)) bodies.now (length bodies.now)) 0
+        (header (length ports.now) u.l u.d u.p u.base u.n u.k)) 12 (lines (table_end (length ports.now)) ports.now lengths.now) }
+{
+    let start = 12 + 8 * ports.len();
+    out[start..start + bodies.len()].copy_from_slice(bodies);
+    put_header(out, ports.len() as u16, u);
+    put_table(out, ports, lengths);
+}
+
+// Lays a file down, and gives how many bytes it has.
+fn try_write(
     base: u16,
-    l: u8,
-    d: u8,
-    p: u16,
-    n: u16,
-    k: u16,
+    l: usize,
+    d: usize,
+    p: usize,
+    n: usize,
+    k: usize,
     ports: &[u8],
     lengths: &[u16],
     bodies: &[u8],
     out: &mut [u8],
-)
-    requires { (length ports.now ≡ length lengths.now) × (length ports.now ≤ most_entries) × (table_end (length ports.now) + length bodies.now ≤ length out.old) }
-    ensures { out.new ≡ sets (sets (paste out.old (table_end (length ports.now)) bodies.now (length bodies.now)) 0
-        (header (length ports.now) l d p base n k)) 12 (lines (table_end (length ports.now)) ports.now lengths.now) }
+) -> Result<usize, Refusal>
+    ensures { record { written = written_of result; out = out.new } ≡ wrote (record { base = base; l = l; d = d; p = p; n = n; k = k; ports = ports.now; lengths = lengths.now; bodies = bodies.now }) out.old }
 {
-    xor::copy_at(out, 12 + 8 * ports.len(), bodies, 0, bodies.len());
-    put_header(out, ports.len() as u16, l, d, p, base, n, k);
-    put_table(out, ports, lengths);
-}
-
-// A refusal.
-fn refused(number: u32) -> Written
-    ensures { result ≡ record { number = number; count = 0 } }
-{
-    Written { number, count: 0 }
+    if !entries_fit(ports, lengths, bodies.len()) {
+        return Err(Refusal::NoCapture);
+    }
+    let Some(u) = set_up(base, l, d, p, n, k) else {
+        return Err(Refusal::NoCapture);
+    };
+    let need = 12 + 8 * ports.len() + bodies.len();
+    if out.len() < need {
+        return Err(Refusal::TooShort);
+    }
+    put_file(u, ports, lengths, bodies, out);
+    Ok(need)
 }
 
 // Writes a file: its entries have the ports and the lengths that are lent, and the bodies one after the other.
@@ -162,21 +180,11 @@ pub fn write(
 ) -> Written
     ensures { record { written = result; out = out.new } ≡ wrote (record { base = base; l = l; d = d; p = p; n = n; k = k; ports = ports.now; lengths = lengths.now; bodies = bodies.now }) out.old }
 {
-    if !entries_fit(ports, lengths, bodies.len()) {
-        return refused(21);
-    }
-    if !numbers_fit(l, d, p, rtp::wide(base), n, k) {
-        return refused(21);
-    }
-    let need = 12 + 8 * ports.len() + bodies.len();
-    if out.len() < need {
-        return refused(4);
-    }
-    put_file(
-        base, l as u8, d as u8, p as u16, n as u16, k as u16, ports, lengths, bodies, out,
-    );
-    Written {
-        number: 0,
-        count: need,
+    match try_write(base, l, d, p, n, k, ports, lengths, bodies, out) {
+        Ok(count) => Written { number: 0, count },
+        Err(refusal) => Written {
+            number: u32::from(u8::from(refusal)),
+            count: 0,
+        },
     }
 }

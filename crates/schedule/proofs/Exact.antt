@@ -1,15 +1,13 @@
 -- The schedule is exact: what is due with a packet goes out with it, once, and nothing else; and where a packet belongs.
 use Rattle.std.proofs.Math.Path.{◌≡◌, refl, ap₂}
-use Rattle.std.proofs.Common.{sym, ◌∙◌, ap, inl, inr, mod-eq_of_lt, div-lt_iff_lt-mul, div-mul-le_self}
+use Rattle.std.proofs.Common.{sym, ◌∙◌, ap, inl, inr, mod-eq_of_lt, div-lt_iff_lt-mul, div-mul-le_self, ℕ, zero, suc, ◌+◌, ◌*◌, ◌-◌, ◌/◌, ◌%◌, ◌≤◌, ◌<◌, arith, ltb-true, ltb-false, eqb-true, eq-eqb, le-leb}
 use Rattle.std.specs.Prelude.{Bool, ◌&&◌, ◌⊎◌, leb, ltb}
 use Rattle.std.proofs.Math.Bool.{true, false, cond}
 use Rattle.std.proofs.Math.Logic.{⊎_elim}
 use Rattle.std.proofs.Math.Option.{none, some}
-use Prim.Native.Nat.{ℕ, zero, suc, ◌+◌, ◌*◌, ◌-◌, ◌/◌, ◌%◌, ◌≤◌, ◌<◌}
 use Rattle.std.proofs.Math.Nat.{mod-lt, mul-add-mod_self_right, div-eq_of_lt-le, div-add-mod', mul-le-mul_left, mul-le-mul_right}
-use native.Mathlib.Omega.{arith}
 use Rattle.std.proofs.Math.Dec.{eqb}
-use borrow.Author.Tests.{ltb-true, ltb-false, eqb-true, eq-eqb, le-leb, lt-leb}
+use Rattle.std.proofs.lemmas.Bool.{lt-leb}
 use Rattle.schedule.specs.Arrangement.{aligned_column, staggered_column}
 use Rattle.schedule.specs.Schedule.{Arrangement, Aligned, Staggered, Cycle, shift, start, due, turn, leaving, column_due, row_due, taking}
 use Rattle.schedule.specs.Exact.{Due, Member, cyc}

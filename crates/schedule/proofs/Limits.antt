@@ -2,10 +2,9 @@
 -- and bounds on when a column goes out.
 use Rattle.std.specs.Prelude.{◌≡◌, ℕ, ◌+◌, ◌*◌, ◌-◌, ◌%◌, ◌≤◌, ◌<◌}
 use Rattle.std.proofs.Math.Path.{ap}
-use Rattle.std.proofs.Common.{ap₂, mod-lt, eq-or-lt_of_le}
+use Rattle.std.proofs.Common.{ap₂, mod-lt, eq-or-lt_of_le, arith}
 use Rattle.std.proofs.Math.Logic.{⊎_elim}
 use Rattle.std.proofs.Math.Nat.{mul-le-mul_left, mul-le-mul_right}
-use native.Mathlib.Omega.{arith}
 use Rattle.schedule.specs.Schedule.{Arrangement, Aligned, Staggered, Cycle, shift, start, due, slot, taking}
 use Rattle.schedule.specs.Exact.{cyc}
 use Rattle.schedule.proofs.Exact.{lt-or-le, less_one, due_soon, member-before, taking-member, taking-early, quotient, remainder}

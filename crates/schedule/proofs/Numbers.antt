@@ -1,5 +1,5 @@
 -- The numbers of the schedule as the code works them out: what they are, their sizes, and the ways through the code.
-use Rattle.std.specs.Prelude.{◌≡◌, true, false, ℕ, ◌*◌, ◌-◌, ◌/◌, ◌%◌, ◌≤◌, ◌<◌, eqb}
+use Rattle.std.specs.Prelude.{◌≡◌, ℕ, ◌*◌, ◌-◌, ◌/◌, ◌%◌, ◌≤◌, ◌<◌, eqb, Option, Some, None}
 use Rattle.std.proofs.Common.{mul-le-mul, div-le_self, arith, eq-eqb, ne_eqb}
 use Rattle.schedule.specs.declared.Leaving.{Leaving}
 use Rattle.schedule.specs.declared.Joining.{Joining}
@@ -43,13 +43,13 @@ slot-fits l m h = let g : m % 2 ≤ 1 = omega arith in mul-le-mul h g
 
 -- ---- the ways through the code
 module _ (a : Arrangement) (l d at k m u s t b : ℕ) (p : k ≡ turn a l d at) (q : m ≡ at / (l * d) - 1) (e : u ≡ due a l d (cyc k m)) where
-  pub leaving-sends : s ≡ start a l d (cyc k m) → t ≡ slot l (cyc k m) → b ≡ at - s → u ≡ at → ◌≡◌ {A = Leaving} (record { sends = true; slot = t; back = b }) (leaving_at a l d at)
+  pub leaving-sends : s ≡ start a l d (cyc k m) → t ≡ slot l (cyc k m) → b ≡ at - s → u ≡ at → ◌≡◌ {A = Option Leaving} (Some (record { slot = t; back = b })) (leaving_at a l d at)
   unfolding leaving_at column_due leaving
   leaving-sends f g h z =
       let w : due a l d (cyc (turn a l d at) (at / (l * d) - 1)) ≡ at = rw (← p, ← q, ← e) z in
       rw (eq-eqb _ _ w, h, f, g, p, q)
 
-  pub leaving-none : ¬ (u ≡ at) → ◌≡◌ {A = Leaving} (record { sends = false; slot = 0; back = 0 }) (leaving_at a l d at)
+  pub leaving-none : ¬ (u ≡ at) → None ≡ leaving_at a l d at
   unfolding leaving_at column_due leaving
   leaving-none z = rw (ne_eqb (due a l d (cyc (turn a l d at) (at / (l * d) - 1))) at (λ w. z (rw (e, p, q) w)))
 

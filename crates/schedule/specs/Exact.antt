@@ -1,6 +1,5 @@
 -- The schedule is exact: what is due with a packet goes out with it, once, and nothing else; and where a packet belongs.
-use Rattle.std.proofs.Math.Path.{◌≡◌}
-use Prim.Native.Nat.{ℕ, ◌+◌, ◌*◌, ◌<◌}
+use Rattle.std.specs.Prelude.{◌≡◌, ℕ, ◌+◌, ◌*◌, ◌<◌}
 use Rattle.schedule.specs.Schedule.{Arrangement, Cycle, start, due}
 
 -- a cycle is due with packet i

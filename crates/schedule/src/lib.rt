@@ -17,10 +17,9 @@ pub enum Arrangement {
 // To how many matrices the counter of a sender counts.
 pub const MATRICES: usize = 3;
 
-// Whether a column goes out with a packet, in which slot its sum stands, and how many packets before this one it starts.
+// A column that goes out with a packet: in which slot its sum stands, and how many packets before this one it starts.
 #[derive(Clone, Copy)]
 pub struct Leaving {
-    pub sends: bool,
     pub slot: usize,
     pub back: usize,
 }
@@ -33,13 +32,14 @@ pub struct Joining {
 }
 
 // The arrangement that a number names: 0 aligned, any other staggered.
-pub fn named(number: u8) -> Arrangement
-    ensures { result ≡ named number }
-{
-    if number == 0 {
-        Arrangement::Aligned
-    } else {
-        Arrangement::Staggered
+impl From<u8> for Arrangement {
+    ghost from_gives = { λ number a. a ≡ named number };
+
+    fn from(number: u8) -> Arrangement {
+        match number {
+            0 => Arrangement::Aligned,
+            _ => Arrangement::Staggered,
+        }
     }
 }
 
@@ -49,13 +49,6 @@ pub fn next_at(n: usize, at: usize) -> usize
     ensures { result ≡ onward n at }
 {
     if at + 1 == MATRICES * n { n } else { at + 1 }
-}
-
-// a - b, or 0 where b is more.
-fn less(a: usize, b: usize) -> usize
-    ensures { result ≡ a - b }
-{
-    if a < b { 0 } else { a - b }
 }
 
 // The line of a matrix on which a column starts.
@@ -109,30 +102,23 @@ fn slot_of(l: usize, column: usize, cycle: usize) -> usize
     column + l * (cycle % 2)
 }
 
-// The column that goes out with the packet at `at`, if one does.
-pub fn column_out(a: Arrangement, l: usize, d: usize, at: usize) -> Leaving
+// The column that goes out with the packet at `at`, if one does. Its parameters stay three values, and so do those of the functions that it
+// calls, since docs/PROMISES.md names it.
+pub fn column_out(a: Arrangement, l: usize, d: usize, at: usize) -> Option<Leaving>
     requires small { Small l d }
     requires at_bound { at < 300 }
     ensures { result ≡ leaving_at a l d at }
 {
     let column = turn_of(a, l, d, at);
-    let cycle = less(at / (l * d), 1);
-    let due = due_of(a, l, d, column, cycle);
-    let start = start_of(a, l, d, column, cycle);
-    let slot = slot_of(l, column, cycle);
-    if due == at {
-        Leaving {
-            sends: true,
-            slot: slot,
-            back: less(at, start),
-        }
-    } else {
-        Leaving {
-            sends: false,
-            slot: 0,
-            back: 0,
-        }
+    let cycle = (at / (l * d)).saturating_sub(1);
+    if due_of(a, l, d, column, cycle) != at {
+        return None;
     }
+    let start = start_of(a, l, d, column, cycle);
+    Some(Leaving {
+        slot: slot_of(l, column, cycle),
+        back: at.saturating_sub(start),
+    })
 }
 
 // The column that takes in the packet at `at`.
@@ -142,11 +128,10 @@ pub fn column_in(a: Arrangement, l: usize, d: usize, at: usize) -> Joining
     ensures { result ≡ joining_at a l d at }
 {
     let column = at % l;
-    let cycle = less(at / l, line_of(a, d, column)) / d;
+    let cycle = (at / l).saturating_sub(line_of(a, d, column)) / d;
     let start = start_of(a, l, d, column, cycle);
-    let slot = slot_of(l, column, cycle);
     Joining {
-        slot: slot,
+        slot: slot_of(l, column, cycle),
         first: start == at,
     }
 }

@@ -1,37 +1,26 @@
 -- A packet's payload in the bytes of a slot, and a parity packet in an output; the ways through a sender's calls. Assumes nothing.
-use mathlib.Core.Path.{◌≡◌, refl, sym, ap, ap₂, ◌∙◌}
-use mathlib.Core.Bool.{Bool, true, false, cond, ◌&&◌, and-true, true≢false}
-use mathlib.Core.List.{List, [], ◌∷◌, ◌++◌}
-use mathlib.Core.Option.{Option, none, some}
-use Prim.Native.Nat.{ℕ, ◌+◌, ◌*◌, ◌-◌, ◌/◌, ◌%◌, ◌≤◌, ◌<◌, max}
-use native.Mathlib.Nat.{mul-le-mul, div-add-mod'}
-use native.Mathlib.Numerals.{add-one}
-use native.Mathlib.Omega.{arith}
-use lib.Dec.{eqb}
-use lib.Bits.{bit_xor}
-use lib.ListN.{length, get_or, take, drop, set, replicate, length-drop}
-use borrow.Author.Tests.{eq-eqb, ne_eqb, ltb-true, ltb-false, le-leb, lt-leb}
-use lib.Seq.{paste, sets, take_all, take-take, take-suc}
+use Rattle.std.proofs.Common.{Some, None, ◌≡◌, refl, sym, ap, ap₂, ◌∙◌, Bool, true, false, cond, List, ◌++◌, ℕ, ◌+◌, ◌*◌, ◌-◌, ◌/◌, ◌%◌, ◌≤◌, ◌<◌, max, div-add-mod', arith, eqb, bit_xor, length, get_or, take, drop, set, length-drop, length-take-le, drop_of_length-le, append-nil, zero-add, [], eq-eqb, ne_eqb, ltb-true, ltb-false, le-leb, take_all, take-take}
+use Rattle.std.proofs.Math.Option.{Option, none, some}
+use Rattle.std.proofs.lemmas.Bool.{lt-leb}
+use Rattle.std.proofs.Math.Seq.{paste, sets}
+use Rattle.std.proofs.lemmas.Slice.{put_mid-paste}
+use borrow.Rule.Slice.PartMut.{put_mid}
 use Rattle.answer.specs.First.{first, Numbered, first_stops, first_goes}
-use Rattle.sequence.specs.Lists.{all}
-use Rattle.sequence.proofs.Lists.{all_append}
-use Rattle.xor.specs.Xor.{zip_xor, xor_at, padded, take-zip}
+use Rattle.xor.specs.Xor.{zip_xor, xor_at, padded, length-zip}
 use Rattle.xor.specs.Padded.{length-padded, xor-padded}
 use Rattle.xor.specs.Laid.{laid}
-use Rattle.parity.specs.Sum.{pasted}
 use Rattle.sequence.specs.Wrap.{ahead}
 use Rattle.rtp.specs.Rtp.{rtp_header_size, parity_type, rtp_header, timestamp}
 use Rattle.rtp.specs.Fec.{parity_header_size, column, row, fec_header}
 use Rattle.rtp.specs.Faults.{no_row}
 use Rattle.window.specs.Limits.{width}
-use Rattle.calls.specs.Call.{zeroed, over}
+use Rattle.calls.specs.Call.{over}
 use Rattle.schedule.specs.declared.Leaving.{Leaving}
 use Rattle.schedule.specs.declared.Joining.{Joining}
-use Rattle.schedule.specs.Schedule.{Cycle, column_due, row_due, row_slot}
+use Rattle.schedule.specs.Schedule.{Cycle, start, column_due, row_due, slot, row_slot}
 use Rattle.schedule.proofs.Exact.{column_due-due}
 use Rattle.schedule.proofs.Limits.{slot_lt}
 use Rattle.schedule.specs.Numbers.{Small, leaving_by, leaving_at, joining_at}
-use Rattle.open.proofs.Ways.{front-zeros}
 use Rattle.sender.specs.declared.Sender.{Sender}
 use Rattle.sender.specs.declared.Outer.{Outer}
 use Rattle.sender.specs.Sums.{Room, lent, slots, alone, join}
@@ -39,41 +28,41 @@ use Rattle.sender.specs.Ready.{Ready, small_of}
 use Rattle.sender.specs.Absorbed.{column-slot}
 use Rattle.sender.specs.Call.{arrangement_of, next_number, no_sender, next_sender, open_tests, offer_tests, cleared, Opened, opened, packet_of, Filled, unused, packet, column_by, column_out, row_out, absorbed, Outcome, refused, offered}
 
--- a slot begins within the room
-pub slot-low : (slot p : ℕ) → slot < 41 → p ≤ 1428 → slot * p ≤ 58548
-slot-low slot p h k = let m : slot ≤ 41 = omega arith in mul-le-mul m k
+-- a datagram's payload is all of it from the header on
+pub rest-is : (h : ℕ) (g : List ℕ) → take (length g - h) (drop h g) ≡ drop h g
+rest-is h g = take_all (length g - h) (drop h g) (omega (arith, length-drop h g))
 
-module _ (d : List ℕ) (at : ℕ) (g : List ℕ) (from size p : ℕ) (h : from + size ≡ length g) where
-  -- a datagram's payload is all of it from the header on
-  whole : take size (drop from g) ≡ drop from g
-  whole = take_all size (drop from g) (simp length-drop (omega arith))
+module _ (d : List ℕ) (at : ℕ) (g : List ℕ) (h p k : ℕ) (ek : k ≡ p) (hd : at + p ≤ length d) (ys : List ℕ) where
+  -- the bytes of a slot
+  abbrev part : List ℕ
+  part = take k (drop at d)
+
+  part-size : length part ≡ p
+  part-size = length-take-le k (drop at d) (simp length-drop (omega arith)) ∙ ek
 
   -- a payload laid over a slot
-  pub lay_payload : (z : List ℕ) → z ≡ paste d at (padded p (take size (drop from g))) p → z ≡ paste d at (padded p (drop from g)) p
-  lay_payload z e = e ∙ ap (λ (l : List ℕ). paste d at (padded p l) p) whole
+  pub lay-payload : ys ≡ padded (length (take k (drop at d))) (take (length g - h) (drop h g)) → put_mid at k d ys ≡ paste d at (padded p (drop h g)) p
+  lay-payload e =
+      let y : ys ≡ padded p (drop h g) = e ∙ ap₂ padded part-size (rest-is h g) in
+      put_mid-paste at k d ys (padded p (drop h g)) p y (sym ek) (sym (length-padded p (drop h g)))
 
   -- a payload xored into a slot
-  pub xor-payload : size ≤ p → at + p ≤ length d → (z : List ℕ) → z ≡ xor_at d at (drop from g) size → z ≡ paste d at (zip_xor (take p (drop at d)) (padded p (drop from g))) p
-  xor-payload hp hd z e =
-      let long : size ≤ length (drop from g) = simp length-drop (omega arith) in
-      let y : List ℕ = padded p (drop from g) in
-      let full : take p y ≡ y = take_all p y (omega (arith, length-padded p (drop from g))) in
-      let front : take p (zip_xor (drop at d) y) ≡ take p (zip_xor (take p (drop at d)) y) =
-      take-zip p (drop at d) y ∙ ap (λ (l : List ℕ). zip_xor l (take p y)) (sym (take-take p p (drop at d) (omega arith))) ∙ sym (take-zip p (take p (drop at d)) y) in
-      e ∙ xor-padded d at (drop from g) size p hp hd long
-      ∙ ap (λ (l : List ℕ). xor_at d at (padded p l) p) whole
-      ∙ pasted p at d (zip_xor (drop at d) y) (zip_xor (take p (drop at d)) y) front
+  pub xor-payload : length (drop h g) ≤ p → ys ≡ xor_at (take k (drop at d)) 0 (take (length g - h) (drop h g)) (length (take (length g - h) (drop h g))) → put_mid at k d ys ≡ paste d at (zip_xor (take p (drop at d)) (padded p (drop h g))) p
+  xor-payload hp e =
+      let s : List ℕ = drop h g in
+      let z : List ℕ = zip_xor part (padded p s) in
+      let long : length z ≡ p = length-zip part (padded p s) (part-size ∙ sym (length-padded p s)) ∙ part-size in
+      let one : ys ≡ xor_at part 0 s (length s) = e ∙ ap (λ (l : List ℕ). xor_at part 0 l (length l)) (rest-is h g) in
+      let two : xor_at part 0 s (length s) ≡ xor_at part 0 (padded p (take (length s) s)) p = xor-padded part 0 s (length s) p hp (omega (arith, part-size)) (omega arith) in
+      let three : take (length s) s ≡ s = take_all (length s) s (omega arith) in
+      let end : drop p part ≡ [] = drop_of_length-le part (omega (arith, part-size)) in
+      let all : xor_at part 0 (padded p s) p ≡ z = rw (zero-add p, end, append-nil) (take_all p z (omega (arith, long))) in
+      put_mid-paste at k d ys z p (one ∙ two ∙ ap (λ (l : List ℕ). xor_at part 0 (padded p l) p) three ∙ all) (sym ek) (sym long)
+      ∙ ap (λ (n : ℕ). paste d at (zip_xor (take n (drop at d)) (padded p s)) p) ek
 
--- all slots of a sender's room are few bytes
-pub room-low : (l p : ℕ) → l ≤ 20 → p ≤ 1428 → (2 * l + 1) * p ≤ 58548
-room-low l p h k = let m : 2 * l + 1 ≤ 41 = omega arith in mul-le-mul m k
-
--- a test of one element more
-pub all-turn : (test : ℕ → Bool) (l : List ℕ) (i : ℕ) → i < length l → (all test (take i l) && test (get_or l i 0)) ≡ all test (take (i + 1) l)
-all-turn test l i h =
-    sym
-    (ap (λ (n : ℕ). all test (take n l)) (add-one i) ∙ ap (all test) (take-suc l i 0 h) ∙ all_append test (take i l) (get_or l i 0 ∷ [])
-    ∙ ap (λ (b : Bool). all test (take i l) && b) (and-true (test (get_or l i 0))))
+-- a part that is pasted whole
+pub pasted-part : (out y : List ℕ) (to n : ℕ) → paste out to (take n y) n ≡ paste out to y n
+pasted-part out y to n = ap (λ (l : List ℕ). take to out ++ l ++ drop (to + n) out) (take-take n n y (omega arith))
 
 -- ---- the refusals of a call, one list after another
 
@@ -96,12 +85,6 @@ pub joined-room : (p slot : ℕ) (first : Bool) (g payloads timestamps lengths l
 joined-room p slot true g payloads timestamps lengths longest ps stamp size t n m es ez ep et en em = rw (ep, et, en, em, es, ez)
 joined-room p slot false g payloads timestamps lengths longest ps stamp size t n m es ez ep et en em = rw (ep, et, en, em, es, ez)
 
--- all four parts cleared
-pub room-cleared : (s : Sender) (payloads timestamps lengths longest a b c d : List ℕ)
-    → a ≡ paste payloads 0 (replicate (slots s.l * s.p) 0) (slots s.l * s.p) → b ≡ zeroed (slots s.l) timestamps → c ≡ zeroed (slots s.l) lengths → d ≡ zeroed (slots s.l) longest
-    → lent a b c d ≡ cleared s (lent payloads timestamps lengths longest)
-room-cleared s payloads timestamps lengths longest a b c d ea eb ec ed = rw (ea ∙ front-zeros (slots s.l * s.p) payloads, eb, ec, ed)
-
 -- the sum of a slot as a parity packet: its payload laid behind the headers
 pub sent-packet : (s : Sender) (o : Outer) (stream back slot : ℕ) (payloads timestamps lengths longest out one two : List ℕ) (number snbase size : ℕ)
     → slot * s.p + s.p ≤ length payloads → get_or longest slot 0 ≤ s.p → parity_header_size + s.p ≤ length out
@@ -122,25 +105,28 @@ sent-packet s o stream back slot payloads timestamps lengths longest out one two
 -- ---- what goes out
 
 -- the column that is due, by the numbers of the schedule
-pub column-none : (s : Sender) (o : Outer) (r : Room) (out : List ℕ) (c : Leaving) → c ≡ leaving_at (arrangement_of s) s.l s.d s.at → c.sends ≡ false → unused out ≡ column_out s o r out
+pub column-none : (s : Sender) (o : Outer) (r : Room) (out : List ℕ) → None ≡ leaving_at (arrangement_of s) s.l s.d s.at → unused out ≡ column_out s o r out
 unfolding column_out leaving_at
-column-none s o r out c e h = go (column_due (arrangement_of s) s.l s.d s.at) refl
+column-none s o r out e = go (column_due (arrangement_of s) s.l s.d s.at) refl
   where
     go : (q : Option Cycle) → column_due (arrangement_of s) s.l s.d s.at ≡ q → unused out ≡ column_by s o r out q
     go none f = refl
-    go (some v) f = absurd (true≢false (ap (λ (z : Leaving). z.sends) (sym (e ∙ ap (leaving_by (arrangement_of s) s.l s.d s.at) f)) ∙ h))
+    go (some v) f = let z = e ∙ ap (leaving_by (arrangement_of s) s.l s.d s.at) f in cc
 
-pub column-some : (s : Sender) (o : Outer) (r : Room) (out : List ℕ) (c : Leaving) → c ≡ leaving_at (arrangement_of s) s.l s.d s.at → c.sends ≡ true
+pub column-some : (s : Sender) (o : Outer) (r : Room) (out : List ℕ) (c : Leaving) → Some c ≡ leaving_at (arrangement_of s) s.l s.d s.at
     → packet s o column c.back c.slot r out ≡ column_out s o r out
 unfolding column_out leaving_at
-column-some s o r out c e h = go (column_due (arrangement_of s) s.l s.d s.at) refl
+column-some s o r out c e = go (column_due (arrangement_of s) s.l s.d s.at) refl
   where
     go : (q : Option Cycle) → column_due (arrangement_of s) s.l s.d s.at ≡ q → packet s o column c.back c.slot r out ≡ column_by s o r out q
-    go none f = absurd (true≢false (sym h ∙ ap (λ (z : Leaving). z.sends) (e ∙ ap (leaving_by (arrangement_of s) s.l s.d s.at) f)))
-    go (some v) f = ap (λ (z : Leaving). packet s o column z.back z.slot r out) (e ∙ ap (leaving_by (arrangement_of s) s.l s.d s.at) f)
+    go none f = let z = e ∙ ap (leaving_by (arrangement_of s) s.l s.d s.at) f in cc
+    go (some v) f =
+        let z = e ∙ ap (leaving_by (arrangement_of s) s.l s.d s.at) f in
+        let w : c ≡ record { slot = slot s.l v; back = s.at - start (arrangement_of s) s.l s.d v } = cc in
+        ap (λ (k : Leaving). packet s o column k.back k.slot r out) w
 
 -- a column that goes out stands in the room, and starts not long ago
-pub leaving-fits : (s : Sender) (r : Room) → Ready s r → (c : Leaving) → c ≡ leaving_at (arrangement_of s) s.l s.d s.at → (c.slot < slots s.l) × (c.back < 300)
+pub leaving-fits : (s : Sender) (r : Room) → Ready s r → (c : Leaving) → Some c ≡ leaving_at (arrangement_of s) s.l s.d s.at → (c.slot < slots s.l) × (c.back < 300)
 unfolding leaving_at
 leaving-fits s r u c e = go (column_due (arrangement_of s) s.l s.d s.at) refl
   where
@@ -148,11 +134,12 @@ leaving-fits s r u c e = go (column_due (arrangement_of s) s.l s.d s.at) refl
     w = small_of s u.set_up
 
     go : (q : Option Cycle) → column_due (arrangement_of s) s.l s.d s.at ≡ q → (c.slot < slots s.l) × (c.back < 300)
-    go none f = let z = e ∙ ap (leaving_by (arrangement_of s) s.l s.d s.at) f in rw z (omega (arith, w.columns), omega arith)
+    go none f = let z = e ∙ ap (leaving_by (arrangement_of s) s.l s.d s.at) f in absurd (cc)
     go (some v) f =
         let z = e ∙ ap (leaving_by (arrangement_of s) s.l s.d s.at) f in
+        let k : c ≡ record { slot = slot s.l v; back = s.at - start (arrangement_of s) s.l s.d v } = cc in
         let h = column_due-due s.l s.d w.columns w.rows (arrangement_of s) s.at v f in
-        rw z (omega (arith, slot_lt s.l s.d w.columns w.rows v h.inside), omega (arith, u.at_low, w.matrix))
+        rw k (omega (arith, slot_lt s.l s.d w.columns w.rows v h.inside), omega (arith, u.at_low, w.matrix))
 
 -- the column that takes a packet in stands in the room
 pub joining_fits : (s : Sender) (r : Room) → Ready s r → (c : Joining) → c ≡ joining_at (arrangement_of s) s.l s.d s.at → c.slot < slots s.l

@@ -23,23 +23,9 @@ abbrev pub short_by : Sender → (payloads timestamps lengths longest : ℕ) →
 short_by s payloads timestamps lengths longest =
     ltb payloads (slots s.l * s.p) || ltb timestamps (slots s.l) || ltb lengths (slots s.l) || ltb longest (slots s.l)
 
--- `open_tests`
-abbrev pub open_by : Sender → (payloads timestamps lengths longest : ℕ) → List (ℕ × Bool)
-open_by s payloads timestamps lengths longest = set_up_tests s ++ ((4, short_by s payloads timestamps lengths longest) ∷ [])
-
--- `standing_tests`
-abbrev pub standing_by : Sender → (payloads timestamps lengths : ℕ) → (longest : List ℕ) → (row column : ℕ) → List (ℕ × Bool)
-standing_by s payloads timestamps lengths longest row column =
-    set_up_tests s ++ ((4, short_by s payloads timestamps lengths (length longest) || short_output s row || short_output s column) ∷ (5, astray s longest) ∷ [])
-
 -- 13
 abbrev pub out_of_turn : Sender → (datagram : List ℕ) → Bool
 out_of_turn s g = not (eqb (sequence_number g) (next_number s))
-
--- `offer_tests`
-abbrev pub offer_by : Sender → (datagram : List ℕ) → (payloads timestamps lengths : ℕ) → (longest : List ℕ) → (row column : ℕ) → List (ℕ × Bool)
-offer_by s g payloads timestamps lengths longest row column =
-    standing_by s payloads timestamps lengths longest row column ++ media_tests s.p g ++ ((13, out_of_turn s g) ∷ [])
 
 -- ---- what is known where none applies
 

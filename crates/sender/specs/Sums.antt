@@ -4,6 +4,7 @@ use Rattle.std.proofs.Math.Seq.{paste}
 use Rattle.rtp.specs.Rtp.{rtp_header_size}
 use Rattle.calls.specs.Content.{Recovery, xor_content}
 use Rattle.calls.specs.Accept.{content_of}
+use Rattle.sender.specs.declared.Sums.{Sums}
 
 -- the lent room: for each slot a payload of P bytes, and the exclusive-or of timestamps, that of lengths, and the longest length
 pub record Room : Type 0 where
@@ -15,6 +16,10 @@ pub record Room : Type 0 where
 -- a room of its four parts
 abbrev pub lent : (payloads timestamps lengths longest : List ℕ) → Room
 lent payloads timestamps lengths longest = record { payloads = payloads; timestamps = timestamps; lengths = lengths; longest = longest }
+
+-- the room whose sums are lent to be read
+abbrev pub room_of : Sums → Room
+room_of s = lent s.payloads.now s.timestamps.now s.lengths.now s.longest.now
 
 -- how many slots there are: two for each column and one for the row
 abbrev pub slots : (l : ℕ) → ℕ

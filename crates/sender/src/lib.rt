@@ -6,20 +6,21 @@
 //
 // A packet costs two passes over its payload, into the sum of its row and into that of its column; a parity packet costs one
 // copy of its payload.
-ghost use Rattle.std.specs.Prelude.{◌≡◌, cond, ◌+◌, ◌*◌, ◌≤◌, ◌<◌, max, leb, length, get_or, set, take, drop};
-ghost use Rattle.std.specs.Int.Bits.{bit_xor};
-ghost use Rattle.std.proofs.Math.Seq.{paste};
+ghost use Rattle.std.specs.Prelude.{◌≡◌, ◌||◌, ◌+◌, ◌*◌, ◌≤◌, ◌<◌, leb, length, get_or, take};
 ghost use Rattle.answer.specs.First.{first};
+ghost use Rattle.answer.specs.Refused.{refusal_number, fault_of};
 ghost use Rattle.sequence.specs.Lists.{all};
-ghost use Rattle.xor.specs.Xor.{zip_xor, padded};
 ghost use Rattle.schedule.specs.Schedule.{matrices};
-ghost use Rattle.sender.specs.Sums.{lent, slots, alone, join};
-ghost use Rattle.sender.specs.Call.{astray, cleared, no_sender, fresh, opened, packet, column_out, row_out, absorbed, next_sender, offered, set_up_tests};
-ghost use Rattle.sender.specs.Ready.{short_by, open_by, standing_by, out_of_turn, offer_by, SetUp, Roomy, Ready, Slot, Payload};
+ghost use Rattle.sender.specs.Sums.{lent, room_of, slots, alone, join};
+ghost use Rattle.sender.specs.Call.{short_room, short_output, astray, cleared, fresh, opened, packet, column_out, row_out, absorbed, next_sender, offered, set_up_tests, open_tests, standing_tests, offer_tests};
+ghost use Rattle.sender.specs.Ready.{out_of_turn, SetUp, Roomy, Ready, Slot, Payload};
+
+use answer::Refusal;
+use schedule::Arrangement;
 
 // A sender's value: its set-up numbers, and where it stands.
 #[repr(C)]
-#[derive(Clone, Copy)]
+#[derive(Clone, Copy, Default)]
 pub struct Sender {
     // number of the first packet
     pub first: u16,
@@ -55,50 +56,17 @@ pub struct Sent {
     pub sender: Sender,
 }
 
+// The sums of a sender's room, lent to be read. Where they are written the four slices stand by themselves: a struct lent with slices lent
+// inside would put both loans into each clause.
+#[derive(Clone, Copy)]
+struct Sums<'a> {
+    payloads: &'a [u8],
+    timestamps: &'a [u32],
+    lengths: &'a [u16],
+    longest: &'a [u16],
+}
+
 // ---- one packet into one sum
-
-// A timestamp with one packet more; a group's first replaces it.
-fn joined_stamp(first: bool, old: u32, v: u32) -> u32
-    ensures { result ≡ cond first v (bit_xor old v) }
-{
-    if first { v } else { old ^ v }
-}
-
-// Lengths with one packet more.
-fn joined_length(first: bool, old: u16, v: u16) -> u16
-    ensures { result ≡ cond first v (bit_xor old v) }
-{
-    if first { v } else { old ^ v }
-}
-
-// The longer of two lengths.
-fn longer(a: u16, b: u16) -> u16
-    ensures { result ≡ max a b }
-{
-    if a < b { b } else { a }
-}
-
-// The longest length with one packet more.
-fn joined_longest(first: bool, old: u16, v: u16) -> u16
-    ensures { result ≡ cond first v (max old v) }
-{
-    if first { v } else { longer(old, v) }
-}
-
-// The payload of a datagram, zeros up to p, comes into the p bytes of a slot.
-fn join_payload(payloads: &mut [u8], slot: usize, first: bool, datagram: &[u8], p: usize)
-    requires { (slot < 41) × (slot * p + p ≤ length payloads.old) × Payload p (length datagram.now) }
-    ensures { payloads.new ≡ paste payloads.old (slot * p)
-        (cond first (padded p (drop 12 datagram.now)) (zip_xor (take p (drop (slot * p) payloads.old)) (padded p (drop 12 datagram.now)))) p }
-{
-    let to = slot * p;
-    let size = datagram.len() - rtp::RTP_HEADER;
-    if first {
-        xor::lay_at(payloads, to, datagram, rtp::RTP_HEADER, size, p);
-        return;
-    }
-    xor::xor_at(payloads, to, datagram, rtp::RTP_HEADER, size);
-}
 
 // A packet comes into the sum of a slot, as the first of its group or as a later one.
 fn join(
@@ -115,22 +83,44 @@ fn join(
     ensures { lent payloads.new timestamps.new lengths.new longest.new
         ≡ join p (lent payloads.old timestamps.old lengths.old longest.old) slot first (alone p datagram.now) }
 {
-    let size = (datagram.len() - rtp::RTP_HEADER) as u16;
-    join_payload(payloads, slot, first, datagram, p);
-    timestamps[slot] = joined_stamp(first, timestamps[slot], rtp::timestamp(datagram));
-    lengths[slot] = joined_length(first, lengths[slot], size);
-    longest[slot] = joined_longest(first, longest[slot], size);
+    let at = slot * p;
+    let payload = &datagram[rtp::RTP_HEADER..];
+    let size = payload.len() as u16;
+    let stamp = rtp::timestamp(datagram);
+    if first {
+        xor::lay(&mut payloads[at..at + p], payload);
+        timestamps[slot] = stamp;
+        lengths[slot] = size;
+        longest[slot] = size;
+    } else {
+        xor::xor_into(&mut payloads[at..at + p], payload);
+        timestamps[slot] ^= stamp;
+        lengths[slot] ^= size;
+        longest[slot] = longest[slot].max(size);
+    }
 }
 
 // ---- refusals
 
-// 4: a part of the room, by its number of elements, is shorter than the sender needs.
-fn short_room(s: Sender, payloads: usize, timestamps: usize, lengths: usize, longest: usize) -> bool
+// 4: a part of the room is shorter than the sender needs.
+fn short_room(s: Sender, sums: Sums) -> bool
     requires { SetUp s }
-    ensures { result ≡ short_by s payloads timestamps lengths longest }
+    ensures { result ≡ short_room s (room_of sums.entry) }
 {
     let n = 2 * s.l + 1;
-    (payloads < n * s.p) | (timestamps < n) | (lengths < n) | (longest < n)
+    sums.payloads.len() < n * s.p
+        || sums.timestamps.len() < n
+        || sums.lengths.len() < n
+        || sums.longest.len() < n
+}
+
+// 4: a part of the room, or an output by its length, is shorter than the sender needs.
+fn is_short(s: Sender, sums: Sums, row: usize, column: usize) -> bool
+    requires { SetUp s }
+    ensures { result ≡ (short_room s (room_of sums.entry) || short_output s row || short_output s column) }
+{
+    let need = rtp::PARITY_HEADERS + s.p;
+    short_room(s, sums) || row < need || column < need
 }
 
 // Each of the first n lengths is p at most.
@@ -138,13 +128,7 @@ fn all_within(longest: &[u16], n: usize, p: u16) -> bool
     requires { n ≤ length longest.now }
     ensures { result ≡ all (λ i. leb i p) (take n longest.now) }
 {
-    let mut within = true;
-    let mut i = 0;
-    while i < n {
-        within = within & (longest[i] <= p);
-        i += 1;
-    }
-    within
+    longest[..n].iter().all(|&size| size <= p)
 }
 
 // 5: the counter past the profile, or a longest length past P.
@@ -152,49 +136,34 @@ fn is_astray(s: Sender, longest: &[u16]) -> bool
     requires { SetUp s × (slots s.l ≤ length longest.now) }
     ensures { result ≡ astray s longest.now }
 {
-    !(s.at < schedule::MATRICES * (s.l * s.d)) | !all_within(longest, 2 * s.l + 1, s.p as u16)
+    s.at >= schedule::MATRICES * (s.l * s.d) || !all_within(longest, 2 * s.l + 1, s.p as u16)
 }
 
-// The first of refusals 1 and 2 that applies, or 0.
-fn set_up_fault(s: Sender) -> u8
-    ensures { result ≡ first (set_up_tests s) }
+// Refusals 1 and 2, in this order.
+fn check_set_up(s: Sender) -> Result<(), Refusal>
+    ensures { fault_of result ≡ first (set_up_tests s) }
 {
     if window::bad_profile(s.l, s.d) {
-        return 1;
+        return Err(Refusal::BadMatrix);
     }
     if window::bad_payload(s.p) {
-        return 2;
+        return Err(Refusal::BadPayload);
     }
-    0
+    Ok(())
 }
 
-// The first of refusals 1, 2, 4 and 5 that applies, or 0.
-fn standing_fault(
-    s: Sender,
-    payloads: usize,
-    timestamps: usize,
-    lengths: usize,
-    longest: &[u16],
-    row: usize,
-    column: usize,
-) -> u8
-    ensures { result ≡ first (standing_by s payloads timestamps lengths longest.now row column) }
+// Refusals 1, 2, 4 and 5, in this order.
+fn check_standing(s: Sender, sums: Sums, row: usize, column: usize) -> Result<(), Refusal>
+    ensures { fault_of result ≡ first (standing_tests s (room_of sums.entry) row column) }
 {
-    let bad = set_up_fault(s);
-    if bad != 0 {
-        return bad;
+    check_set_up(s)?;
+    if is_short(s, sums, row, column) {
+        return Err(Refusal::TooShort);
     }
-    let need = rtp::PARITY_HEADERS + s.p;
-    if short_room(s, payloads, timestamps, lengths, longest.len())
-        | (row < need)
-        | (column < need)
-    {
-        return 4;
+    if is_astray(s, sums.longest) {
+        return Err(Refusal::Disorder);
     }
-    if is_astray(s, longest) {
-        return 5;
-    }
-    0
+    Ok(())
 }
 
 // 13: another number than the next.
@@ -204,31 +173,22 @@ fn out_of_turn(s: Sender, datagram: &[u8]) -> bool
     rtp::sequence_number(datagram) != sequence::next(s.first, s.taken)
 }
 
-// The first of refusals 1 to 9 and 13 that applies to an offer, or 0.
-fn offer_fault(
+// Refusals 1 to 9 and 13 of an offer, in this order.
+fn check_offer(
     s: Sender,
     datagram: &[u8],
-    payloads: usize,
-    timestamps: usize,
-    lengths: usize,
-    longest: &[u16],
+    sums: Sums,
     row: usize,
     column: usize,
-) -> u8
-    ensures { result ≡ first (offer_by s datagram.now payloads timestamps lengths longest.now row column) }
+) -> Result<(), Refusal>
+    ensures { fault_of result ≡ first (offer_tests s datagram.now (room_of sums.entry) row column) }
 {
-    let standing = standing_fault(s, payloads, timestamps, lengths, longest, row, column);
-    if standing != 0 {
-        return standing;
-    }
-    let own = rtp::media_fault(datagram, s.p);
-    if own != 0 {
-        return own;
-    }
+    check_standing(s, sums, row, column)?;
+    rtp::check_media(datagram, s.p)?;
     if out_of_turn(s, datagram) {
-        return 13;
+        return Err(Refusal::Outside);
     }
-    0
+    Ok(())
 }
 
 // ---- what goes out
@@ -241,27 +201,25 @@ fn send(
     stream: u8,
     back: usize,
     slot: usize,
-    payloads: &[u8],
-    timestamps: &[u32],
-    lengths: &[u16],
-    longest: &[u16],
+    sums: Sums,
     out: &mut [u8],
 ) -> usize
-    requires { SetUp s × (stream ≤ 1) × (back < 300) × Slot slot s.p (lent payloads.now timestamps.now lengths.now longest.now) × (get_or longest.now slot 0 ≤ s.p) × (28 + s.p ≤ length out.old) }
-    ensures { record { bytes = result; out = out.new } ≡ packet s o stream back slot (lent payloads.now timestamps.now lengths.now longest.now) out.old }
+    requires { SetUp s × (stream ≤ 1) × (back < 300) × Slot slot s.p (room_of sums) × (get_or sums.longest.now slot 0 ≤ s.p) × (28 + s.p ≤ length out.old) }
+    ensures { record { bytes = result; out = out.new } ≡ packet s o stream back slot (room_of sums.entry) out.old }
 {
+    let from = slot * s.p;
     let to = rtp::PARITY_HEADERS;
-    let size = rtp::wide(longest[slot]);
+    let size = sums.longest[slot] as usize;
     let snbase = sequence::position(back as u16, sequence::next(s.first, s.taken));
-    xor::copy_at(out, to, payloads, slot * s.p, size);
+    out[to..to + size].copy_from_slice(&sums.payloads[from..from + size]);
     rtp::write_parity(
         out,
         stream,
         s.l,
         s.d,
         snbase,
-        lengths[slot],
-        timestamps[slot],
+        sums.lengths[slot],
+        sums.timestamps[slot],
         o.sequence,
         o.timestamp,
         o.ssrc,
@@ -270,68 +228,26 @@ fn send(
 }
 
 // The column that goes out with the next packet, if one does; how many bytes that are.
-fn send_column(
-    s: Sender,
-    o: Outer,
-    payloads: &[u8],
-    timestamps: &[u32],
-    lengths: &[u16],
-    longest: &[u16],
-    out: &mut [u8],
-) -> usize
-    requires { Ready s (lent payloads.now timestamps.now lengths.now longest.now) × (28 + s.p ≤ length out.old) }
-    ensures { record { bytes = result; out = out.new } ≡ column_out s o (lent payloads.now timestamps.now lengths.now longest.now) out.old }
+fn send_column(s: Sender, o: Outer, sums: Sums, out: &mut [u8]) -> usize
+    requires { Ready s (room_of sums) × (28 + s.p ≤ length out.old) }
+    ensures { record { bytes = result; out = out.new } ≡ column_out s o (room_of sums.entry) out.old }
 {
-    let c = schedule::column_out(schedule::named(s.arrangement), s.l, s.d, s.at);
-    if !c.sends {
-        return 0;
+    match schedule::column_out(Arrangement::from(s.arrangement), s.l, s.d, s.at) {
+        Some(c) => send(s, o, rtp::COLUMN, c.back, c.slot, sums, out),
+        None => 0,
     }
-    send(
-        s,
-        o,
-        rtp::COLUMN,
-        c.back,
-        c.slot,
-        payloads,
-        timestamps,
-        lengths,
-        longest,
-        out,
-    )
 }
 
 // The row that goes out with the packet that came last into the sums, if one does; how many bytes that are.
-fn send_row(
-    s: Sender,
-    o: Outer,
-    payloads: &[u8],
-    timestamps: &[u32],
-    lengths: &[u16],
-    longest: &[u16],
-    out: &mut [u8],
-) -> usize
-    requires { Ready s (lent payloads.now timestamps.now lengths.now longest.now) × (28 + s.p ≤ length out.old) }
-    ensures { record { bytes = result; out = out.new } ≡ row_out s o (lent payloads.now timestamps.now lengths.now longest.now) out.old }
+fn send_row(s: Sender, o: Outer, sums: Sums, out: &mut [u8]) -> usize
+    requires { Ready s (room_of sums) × (28 + s.p ≤ length out.old) }
+    ensures { record { bytes = result; out = out.new } ≡ row_out s o (room_of sums.entry) out.old }
 {
     let l = s.l;
-    if rtp::no_row(rtp::ROW, l) {
+    if rtp::no_row(rtp::ROW, l) || s.at % l + 1 != l {
         return 0;
     }
-    if s.at % l + 1 != l {
-        return 0;
-    }
-    send(
-        s,
-        o,
-        rtp::ROW,
-        l - 1,
-        2 * l,
-        payloads,
-        timestamps,
-        lengths,
-        longest,
-        out,
-    )
+    send(s, o, rtp::ROW, l - 1, 2 * l, sums, out)
 }
 
 // The next packet comes into the sum of its row and into that of its column. The row comes first: the processor works out the
@@ -349,7 +265,7 @@ fn absorb(
         ≡ absorbed s datagram.now (lent payloads.old timestamps.old lengths.old longest.old) }
 {
     let l = s.l;
-    let c = schedule::column_in(schedule::named(s.arrangement), l, s.d, s.at);
+    let c = schedule::column_in(Arrangement::from(s.arrangement), l, s.d, s.at);
     join(
         payloads,
         timestamps,
@@ -367,18 +283,15 @@ fn absorb(
 
 // ---- opening
 
-// The first of refusals 1, 2 and 4 that applies to an opening, or 0.
-fn open_fault(s: Sender, payloads: usize, timestamps: usize, lengths: usize, longest: usize) -> u8
-    ensures { result ≡ first (open_by s payloads timestamps lengths longest) }
+// Refusals 1, 2 and 4 of an opening, in this order.
+fn check_open(s: Sender, sums: Sums) -> Result<(), Refusal>
+    ensures { fault_of result ≡ first (open_tests s (room_of sums.entry)) }
 {
-    let bad = set_up_fault(s);
-    if bad != 0 {
-        return bad;
+    check_set_up(s)?;
+    if short_room(s, sums) {
+        return Err(Refusal::TooShort);
     }
-    if short_room(s, payloads, timestamps, lengths, longest) {
-        return 4;
-    }
-    0
+    Ok(())
 }
 
 // All slots that a sender needs set to zero.
@@ -394,36 +307,21 @@ fn clear(
         ≡ cleared s (lent payloads.old timestamps.old lengths.old longest.old) }
 {
     let n = 2 * s.l + 1;
-    xor::zero_at(payloads, 0, n * s.p);
-    open::zero32(timestamps, n);
-    open::zero16(lengths, n);
-    open::zero16(longest, n);
+    payloads[..n * s.p].fill(0);
+    timestamps[..n].fill(0);
+    lengths[..n].fill(0);
+    longest[..n].fill(0);
 }
 
-// The answer to a call with nothing written: 0 or the refusal, and the next sender value.
-fn answered(number: u8, sender: Sender) -> Sent
-    ensures { result ≡ record { number = number; row = 0; column = 0; sender = sender } }
+// The answer to a refused call, by the number that the C interface gives the refusal: nothing written, and the next sender value.
+fn refused(refusal: Refusal, sender: Sender) -> Sent
+    ensures { result ≡ record { number = refusal_number refusal; row = 0; column = 0; sender = sender } }
 {
     Sent {
-        number: number as u32,
+        number: u32::from(u8::from(refusal)),
         row: 0,
         column: 0,
         sender,
-    }
-}
-
-// The sender value of a refused opening, which no later call takes.
-fn no_sender() -> Sender
-    ensures { result ≡ no_sender }
-{
-    Sender {
-        first: 0,
-        taken: 0,
-        arrangement: 0,
-        l: 0,
-        d: 0,
-        p: 0,
-        at: 0,
     }
 }
 
@@ -452,18 +350,22 @@ impl Sender {
             p,
             at: 0,
         };
-        let fault = open_fault(
-            s,
-            payloads.len(),
-            timestamps.len(),
-            lengths.len(),
-            longest.len(),
-        );
-        if fault != 0 {
-            return answered(fault, no_sender());
+        let sums = Sums {
+            payloads,
+            timestamps,
+            lengths,
+            longest,
+        };
+        if let Err(refusal) = check_open(s, sums) {
+            return refused(refusal, Sender::default());
         }
         clear(s, payloads, timestamps, lengths, longest);
-        answered(0, s)
+        Sent {
+            number: 0,
+            row: 0,
+            column: 0,
+            sender: s,
+        }
     }
 
     // The sender value after a packet.
@@ -472,13 +374,9 @@ impl Sender {
         ensures { result ≡ next_sender self }
     {
         Sender {
-            first: self.first,
             taken: sequence::next(self.taken, 1),
-            arrangement: self.arrangement,
-            l: self.l,
-            d: self.d,
-            p: self.p,
             at: schedule::next_at(self.l * self.d, self.at),
+            ..self
         }
     }
 
@@ -499,24 +397,24 @@ impl Sender {
         ensures { record { sent = result; room = lent payloads.new timestamps.new lengths.new longest.new; row = row_out.new; column = column_out.new }
             ≡ offered self datagram.now row column (lent payloads.old timestamps.old lengths.old longest.old) row_out.old column_out.old }
     {
-        let fault = offer_fault(
-            self,
-            datagram,
-            payloads.len(),
-            timestamps.len(),
-            lengths.len(),
+        let before = Sums {
+            payloads,
+            timestamps,
+            lengths,
             longest,
-            row_out.len(),
-            column_out.len(),
-        );
-        if fault != 0 {
-            return answered(fault, self);
+        };
+        if let Err(refusal) = check_offer(self, datagram, before, row_out.len(), column_out.len()) {
+            return refused(refusal, self);
         }
-        let columns = send_column(
-            self, column, payloads, timestamps, lengths, longest, column_out,
-        );
+        let columns = send_column(self, column, before, column_out);
         absorb(self, datagram, payloads, timestamps, lengths, longest);
-        let rows = send_row(self, row, payloads, timestamps, lengths, longest, row_out);
+        let after = Sums {
+            payloads,
+            timestamps,
+            lengths,
+            longest,
+        };
+        let rows = send_row(self, row, after, row_out);
         Sent {
             number: 0,
             row: rows,

@@ -1,3 +1,4 @@
+pub mod Chains
 pub mod Line
 pub mod Lists
 pub mod Wrap

@@ -16,11 +16,6 @@ unfoldable pub gathered : ℕ → List Record → List Row
 gathered zero t = []
 gathered (suc r) t = more (gathered r t) r (get_or t r blank)
 
--- n rows of a hand that has room for `most` are these, or these are more than `most`
-pub record Gathered (most n : ℕ) (hs gs : List Row) : Type 0 where
-  pub count : n ≡ cond (ltb most (length gs)) (most + 1) (length gs)
-  pub these : n ≤ most → take n hs ≡ gs
-
 module _ {t : List Record} where
   -- one free record more
   free-last : {k q : ℕ} {hs : List Row} → Apart t k q hs → Free t k → Apart t (suc k) q hs

@@ -141,48 +141,43 @@ pub record Passed (gs : List Row) (i : ℕ) : Type 0 where
   pub gap : gap_from 0 gs ≡ gap_from i (drop i gs)
   pub stay : (v : Record) → hold_in 0 v gs ≡ take i gs ++ hold_in i v (drop i gs)
 
-module _ (hs : List Row) (m i : ℕ) (l : m ≤ length hs) (h : i < m) (p : Passed (take m hs) i) where
-  -- row i of the first m
-  row : get_or (take m hs) i nobody ≡ get_or hs i nobody
-  row = get_or-take m hs i nobody h
-
+module _ (hs : List Row) (i : ℕ) (h : i < length hs) (p : Passed hs i) where
   -- the rows from i on begin with row i
-  here : drop i (take m hs) ≡ get_or hs i nobody ∷ drop (suc i) (take m hs)
-  here = drop-cons (take m hs) i nobody (omega (arith, length-take-le m hs l)) ∙ ap (λ (g : Row). g ∷ drop (suc i) (take m hs)) row
+  here : drop i hs ≡ get_or hs i nobody ∷ drop (suc i) hs
+  here = drop-cons hs i nobody h
 
-  -- row i is not a row in use with slot i
-  stop : (b : Bool) → (eqb (slot_at hs i) i && eqb (it_at hs i).in_use 1) ≡ b → b ≡ false → FirstFree m (take m hs) i
-  stop b e f = record { is = sym (p.gap ∙ rw (here, e, f)); gap = rw (here, e, f); few = omega arith; stay = p.stay }
-
-  -- the search ends at a row with another slot
-  pub elsewhere : (s : ℕ) → s ≡ slot_at hs i → (s ≡ i → ⊥) → FirstFree m (take m hs) i
-  elsewhere s e n = stop _ refl (rw (← e, ne_eqb s i n))
-
-  -- the search ends at a row that is not in use
-  pub unused : (s : ℕ) → s ≡ slot_at hs i → s ≡ i → (v : Record) → v ≡ it_at hs i → (v.in_use ≡ 1 → ⊥) → FirstFree m (take m hs) i
-  unused s e n v f u = stop _ refl (rw (← e, eq-eqb s i n, ← f, ne_eqb v.in_use 1 u))
+  -- row i is not a row in use with slot i: the search ends there
+  pub stops : (eqb (slot_at hs i) i && eqb (it_at hs i).in_use 1) ≡ false → FirstFree (length hs) hs i
+  stops f = record { is = sym (p.gap ∙ rw (here, f)); gap = rw (here, f); few = omega arith; stay = p.stay }
 
   -- the search goes on after a row in use with its own number as slot
-  pub used-here : (s : ℕ) → s ≡ slot_at hs i → s ≡ i → (v : Record) → v ≡ it_at hs i → v.in_use ≡ 1 → Passed (take m hs) (i + 1)
-  used-here s e n v f u =
-      let a : eqb (slot_at hs i) i ≡ true = rw (← e) (eq-eqb s i n) in
-      let b : eqb (it_at hs i).in_use 1 ≡ true = rw (← f) (eq-eqb v.in_use 1 u) in
+  pub goes : (eqb (slot_at hs i) i && eqb (it_at hs i).in_use 1) ≡ true → Passed hs (i + 1)
+  goes a =
       record {
-        gap = p.gap ∙ rw (here, a, b, add-one i);
+        gap = p.gap ∙ rw (here, a, add-one i);
         stay =
-            λ x. p.stay x ∙ rw (here, a, b, add-one i) (sym (ap (λ (gs : List Row). gs ++ hold_in (suc i) x (drop (suc i) (take m hs))) (take-suc (take m hs) i nobody (omega (arith, length-take-le m hs l)) ∙ ap (λ (g : Row). take i (take m hs) ++ (g ∷ [])) row)
-            ∙ append_snoc (take i (take m hs)) (get_or hs i nobody) (hold_in (suc i) x (drop (suc i) (take m hs)))));
+            λ x. p.stay x ∙ ap (λ (gs : List Row). take i hs ++ hold_in i x gs) here ∙ ap (λ (gs : List Row). take i hs ++ gs) (held_on (get_or hs i nobody) x (drop (suc i) hs) a)
+            ∙ sym (append_snoc (take i hs) (get_or hs i nobody) (hold_in (suc i) x (drop (suc i) hs))) ∙ ap (λ (gs : List Row). gs ++ hold_in (suc i) x (drop (suc i) hs)) (sym (take-suc hs i nobody h))
+            ∙ ap (λ (j : ℕ). take j hs ++ hold_in j x (drop j hs)) (sym (add-one i));
       }
+    where
+      held_on : (g : Row) (x : Record) (gs : List Row) → (eqb g.slot i && eqb g.it.in_use 1) ≡ true → hold_in i x (g ∷ gs) ≡ g ∷ hold_in (suc i) x gs
+      held_on g x gs e = go (eqb g.slot i) (eqb g.it.in_use 1) e
+        where
+          go : (b d : Bool) → (b && d) ≡ true → cond b (cond d (g ∷ hold_in (i + 1) x gs) (record { slot = i; note = g.note; it = x } ∷ gs)) (record { slot = i; note = 0; it = x } ∷ g ∷ gs) ≡ g ∷ hold_in (suc i) x gs
+          go true true z = rw (add-one i) refl
+          go true false z = absurd (let w : ◌≡◌ {A = ℕ} 0 1 = cc in omega arith)
+          go false d z = absurd (let w : ◌≡◌ {A = ℕ} 0 1 = cc in omega arith)
 
 -- at first no row is passed
 pub none_passed : (gs : List Row) → Passed gs 0
 none_passed gs = record { gap = refl; stay = λ v. refl }
 
 -- where each row is passed the next number is free
-pub all-passed : (hs : List Row) (m i : ℕ) → m ≤ length hs → i ≡ m → Passed (take m hs) i → FirstFree m (take m hs) m
-all-passed hs m i l e p =
-    let n : drop m (take m hs) ≡ [] = ap (λ (j : ℕ). drop j (take m hs)) (sym (length-take-le m hs l)) ∙ drop-length (take m hs) in
-    let z : Passed (take m hs) m = subst (Passed (take m hs)) e p in
+pub all-passed : (hs : List Row) (i : ℕ) → i ≡ length hs → Passed hs i → FirstFree (length hs) hs (length hs)
+all-passed hs i e p =
+    let n : drop (length hs) hs ≡ [] = drop-length hs in
+    let z : Passed hs (length hs) = subst (Passed hs) e p in
     record { is = sym (z.gap ∙ rw n); gap = rw n; few = omega arith; stay = z.stay }
 
 -- of the first m rows those from i on have moved on by one, and hs' has its own row i

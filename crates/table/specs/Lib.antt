@@ -1,6 +1,5 @@
 pub mod View
 pub mod Note
-pub mod Laws
 pub mod Apart
 pub mod Fold
 pub mod Scans

@@ -1,276 +1,100 @@
 #![tactic(auto)]
 
-// The records in use, each with its slot and a note of what the last look at its group found: one slice of words, four to a row, seen through
-// one view, `hand`.
-ghost use Rattle.std.specs.Prelude.{◌≡◌, true, false, List, [], ◌+◌, ◌/◌, ◌%◌, ◌<◌, ◌≤◌, length, set, take};
-ghost use Rattle.window.specs.declared.Record.{Record};
-ghost use Rattle.table.specs.View.{Row, hand, words_at, put_words, fit, slot_at, note_at, it_at, put, put_note, scatter};
+// The hand: the records in use, each with its slot in the table and a note of what the last look at its group found. It is gathered
+// of the lent table and put back.
+ghost use Rattle.std.specs.Prelude.{◌≡◌, true, false, not, List, [], ◌+◌, ◌%◌, ◌<◌, ◌≤◌, eqb, length, take, IfSome, IfNone};
+ghost use Rattle.table.specs.View.{slot_at, scatter};
 ghost use Rattle.table.specs.Note.{note_of};
 ghost use Rattle.table.specs.Apart.{Within};
 ghost use Rattle.table.specs.Hold.{FirstFree, Shifted, hold_in};
-ghost use Rattle.table.specs.Gather.{more, gathered, Gathered, wiped};
+ghost use Rattle.table.specs.Gather.{gathered, wiped};
 
 use window::{Look, Record};
 
-// How many words a row has: one for its slot and its note, three for its record.
-pub const ROW: usize = 4;
+// A record in hand: its slot in the table, the note of the last look at its group, and the record itself, in sixteen bytes: the
+// whole hand of a call lies on the stack.
+#[derive(Clone, Copy, Default)]
+pub struct Row {
+    pub slot: u16,
+    pub note: u16,
+    pub it: Record,
+}
 
 // The note of a look that finds none missing.
-pub const NOTE_NONE: usize = 0;
+pub const NOTE_NONE: u16 = 0;
 
 // The note of a look that finds more than one missing.
-pub const NOTE_MORE: usize = 1;
+pub const NOTE_MORE: u16 = 1;
 
 // The note of a look that finds one missing, at position 0; any other position is added.
-pub const NOTE_ONE: usize = 2;
+pub const NOTE_ONE: u16 = 2;
 
 // The note of a look.
-pub fn note_of(a: Look) -> usize
+pub fn note_of(a: Look) -> u16
     requires { note_of a < 65536 }
     ensures { result ≡ note_of a }
 {
     match a {
         Look::None(_) => NOTE_NONE,
-        Look::One(i, _) => i + NOTE_ONE,
+        Look::One(i, _) => i as u16 + NOTE_ONE,
         Look::More(_) => NOTE_MORE,
     }
 }
 
-// A word as a size.
-fn wide32(x: u32) -> usize
-    ensures { result ≡ x }
+// The first record of the table that is free, or the number of rows where each is in use and they are the first of the table.
+pub fn first_free(rows: &[Row]) -> usize
+    ensures { FirstFree (length rows.now) rows.now result }
 {
-    x as usize
-}
-
-// A small size as a word.
-fn narrow32(x: usize) -> u32
-    requires { x < 65536 }
-    ensures { (result ≡ x) × (result < 65536) }
-{
-    x as u32
-}
-
-// A field of 8 bits as a word.
-fn wide8(x: u8) -> u32
-    ensures { (result ≡ x) × (x < 256) }
-{
-    x as u32
-}
-
-// A field of 16 bits as a word.
-fn wide16(x: u16) -> u32
-    ensures { (result ≡ x) × (x < 65536) }
-{
-    x as u32
-}
-
-// The upper 16 bits of a word.
-fn upper(x: u32) -> u32
-    ensures { (result ≡ x / 65536) × (result < 65536) }
-{
-    x / 65536
-}
-
-// The lower 16 bits of a word.
-fn lower(x: u32) -> u32
-    ensures { (result ≡ x % 65536) × (result < 65536) }
-{
-    x % 65536
-}
-
-// The record of the three words from i on, each field modulo its width.
-fn words_at(rows: &[u32], i: usize) -> Record
-    requires { i + 3 ≤ length rows.now }
-    ensures { result ≡ words_at rows.now i }
-{
-    let group = rows[i];
-    let lengths = rows[i + 2];
-    Record {
-        stream: (group % 256) as u8,
-        in_use: (group / 256 % 256) as u8,
-        snbase: (group / 65536 % 65536) as u16,
-        timestamp_recovery: rows[i + 1],
-        length_recovery: (lengths % 65536) as u16,
-        payload_length: (lengths / 65536 % 65536) as u16,
-    }
-}
-
-// The three words from i on are set to those of a record.
-fn put_words(rows: &mut [u32], i: usize, v: Record)
-    requires { i + 3 ≤ length rows.old }
-    ensures { (rows.new ≡ put_words rows.old i v) × (fit v ≡ v) }
-{
-    let stream = wide8(v.stream);
-    let in_use = wide8(v.in_use);
-    let snbase = wide16(v.snbase);
-    let recovery = wide16(v.length_recovery);
-    let size = wide16(v.payload_length);
-    rows[i] = stream + in_use * 256 + snbase * 65536;
-    rows[i + 1] = v.timestamp_recovery;
-    rows[i + 2] = recovery + size * 65536;
-}
-
-// The first word of row i.
-fn head(rows: &[u32], i: usize) -> u32
-    requires { i < length (hand rows.now) }
-    ensures { (result / 65536 ≡ slot_at (hand rows.now) i) × (result % 65536 ≡ note_at (hand rows.now) i) }
-{
-    rows[i * ROW]
-}
-
-// The slot of row i as a word.
-fn slot_word(rows: &[u32], i: usize) -> u32
-    requires { i < length (hand rows.now) }
-    ensures { (result ≡ slot_at (hand rows.now) i) × (result < 65536) }
-{
-    upper(head(rows, i))
-}
-
-// The note of row i as a word.
-fn note_word(rows: &[u32], i: usize) -> u32
-    requires { i < length (hand rows.now) }
-    ensures { (result ≡ note_at (hand rows.now) i) × (result < 65536) }
-{
-    lower(head(rows, i))
-}
-
-// The slot of row i.
-pub fn slot_at(rows: &[u32], i: usize) -> usize
-    requires { i < length (hand rows.now) }
-    ensures { result ≡ slot_at (hand rows.now) i }
-{
-    wide32(slot_word(rows, i))
-}
-
-// The note of row i.
-pub fn note_at(rows: &[u32], i: usize) -> usize
-    requires { i < length (hand rows.now) }
-    ensures { result ≡ note_at (hand rows.now) i }
-{
-    wide32(note_word(rows, i))
-}
-
-// The record of row i.
-pub fn record_at(rows: &[u32], i: usize) -> Record
-    requires { i < length (hand rows.now) }
-    ensures { result ≡ it_at (hand rows.now) i }
-{
-    words_at(rows, i * ROW + 1)
-}
-
-// The slot and the note of row i are set.
-fn put_head(rows: &mut [u32], i: usize, s: u32, n: u32)
-    requires { (i < length (hand rows.old)) × (s < 65536) × (n < 65536) }
-    ensures { hand rows.new ≡ set (hand rows.old) i (record { slot = s; note = n; it = it_at (hand rows.old) i }) }
-{
-    rows[i * ROW] = s * 65536 + n;
-}
-
-// The note of row i is set.
-pub fn put_note(rows: &mut [u32], i: usize, note: usize)
-    requires { (i < length (hand rows.old)) × (note < 65536) }
-    ensures { hand rows.new ≡ put_note (hand rows.old) i note }
-{
-    let s = slot_word(rows, i);
-    put_head(rows, i, s, narrow32(note));
-}
-
-// The record of row i is set to v.
-pub fn put_record(rows: &mut [u32], i: usize, v: Record)
-    requires { i < length (hand rows.old) }
-    ensures { hand rows.new ≡ put (hand rows.old) i v }
-{
-    put_words(rows, i * ROW + 1, v);
-}
-
-// Row i is set to v at slot s with note n.
-pub fn put_row(rows: &mut [u32], i: usize, s: u32, n: u32, v: Record)
-    requires { (i < length (hand rows.old)) × (s < 65536) × (n < 65536) }
-    ensures { hand rows.new ≡ set (hand rows.old) i (record { slot = s; note = n; it = v }) }
-{
-    put_head(rows, i, s, n);
-    put_record(rows, i, v);
-}
-
-// The first record of the table that is free, or the number of rows where each is in use and they are the first of the table. The hand is the first m rows.
-pub fn first_free(rows: &[u32], m: usize) -> usize
-    requires { m ≤ length (hand rows.now) }
-    ensures { FirstFree m (take m (hand rows.now)) result }
-{
-    let mut i = 0;
-    while i < m {
-        let s = slot_at(rows, i);
-        if s != i {
+    for i in 0..rows.len() {
+        if rows[i].slot as usize != i || rows[i].it.in_use != 1 {
             return i;
         }
-        let v = record_at(rows, i);
-        if v.in_use != 1 {
-            return i;
-        }
-        i += 1;
     }
-    m
+    rows.len()
 }
 
 // Rows r to m - 1 move on by one.
-fn shift(rows: &mut [u32], r: usize, m: usize)
-    requires { (r ≤ m) × (m < length (hand rows.old)) }
-    ensures { Shifted r m (hand rows.old) (hand rows.new) }
+fn shift(rows: &mut [Row], r: usize, m: usize)
+    requires { (r ≤ m) × (m < length rows.old) }
+    ensures { Shifted r m rows.old rows.new }
 {
-    let mut i = m;
-    while r < i {
-        let s = slot_word(rows, i - 1);
-        let n = note_word(rows, i - 1);
-        let v = record_at(rows, i - 1);
-        put_row(rows, i, s, n, v);
-        i -= 1;
+    for i in (r..m).rev() {
+        rows[i + 1] = rows[i];
     }
 }
 
 // Row r, one of the first m, has slot r.
-fn has_row(rows: &[u32], m: usize, r: usize) -> bool
-    requires { m ≤ length (hand rows.now) }
-    ensures { (result ≡ true → (r < m) × (slot_at (hand rows.now) r ≡ r)) × (result ≡ false → r < m → slot_at (hand rows.now) r ≡ r → ⊥) }
+fn has_row(rows: &[Row], m: usize, r: usize) -> bool
+    requires { m ≤ length rows.now }
+    ensures { (result ≡ true → (r < m) × (slot_at rows.now r ≡ r)) × (result ≡ false → r < m → slot_at rows.now r ≡ r → ⊥) }
 {
-    if m <= r {
-        return false;
-    }
-    let s = slot_at(rows, r);
-    if s != r {
-        return false;
-    }
-    true
+    r < m && rows[r].slot as usize == r
 }
 
 // A record goes into the first free record of the table: into its row, or into a new one. The hand is the first m rows, and the answer how many it is then.
-pub fn hold(rows: &mut [u32], m: usize, v: Record) -> usize
-    requires { (m < length (hand rows.old)) × (m < 65536) }
-    ensures { (take result (hand rows.new) ≡ hold_in 0 v (take m (hand rows.old))) × (result ≤ m + 1) }
+pub fn hold(rows: &mut [Row], m: usize, v: Record) -> usize
+    requires { (m < length rows.old) × (m < 65536) }
+    ensures { (take result rows.new ≡ hold_in 0 v (take m rows.old)) × (result ≤ m + 1) }
 {
-    let r = first_free(rows, m);
+    let r = first_free(&rows[..m]);
     if has_row(rows, m, r) {
-        put_record(rows, r, v);
+        rows[r].it = v;
         return m;
     }
     shift(rows, r, m);
-    put_row(rows, r, narrow32(r), 0, v);
+    rows[r] = Row {
+        slot: r as u16,
+        note: 0,
+        it: v,
+    };
     m + 1
 }
 
-// Record r of the table, v, becomes row n where its mark is not 0. The answer is how many rows there are now, or most + 1.
-fn take_in(rows: &mut [u32], n: usize, most: usize, r: usize, v: Record) -> usize
-    requires { (most ≤ length (hand rows.old)) × (r < 65536) }
-    ensures { (gs : List Row) → Gathered most n (hand rows.old) gs → Gathered most result (hand rows.new) (more gs r v) }
+// A record is not free.
+fn is_taken(v: Record) -> bool
+    ensures { result ≡ not (eqb v.in_use 0) }
 {
-    if v.in_use == 0 {
-        return n;
-    }
-    if n >= most {
-        return most + 1;
-    }
-    put_row(rows, n, narrow32(r), 0, v);
-    n + 1
+    v.in_use != 0
 }
 
 // One of four records is not free.
@@ -303,30 +127,37 @@ fn free_front(table: &[Record], k: usize) -> usize
     to
 }
 
-// The records in use among the first k of the table become the first rows. The answer is how many they are, or most + 1 where they are more than most.
-pub fn gather(table: &[Record], k: usize, rows: &mut [u32], most: usize) -> usize
-    requires { (k ≤ length table.now) × (k ≤ 65536) × (most ≤ length (hand rows.old)) }
-    ensures { Gathered most result (hand rows.new) (gathered k table.now) }
+// The records in use among the first k of the table become the first rows. The answer is how many they are, or none where there is
+// not room for all.
+pub fn gather(table: &[Record], k: usize, rows: &mut [Row]) -> Option<usize>
+    requires { (k ≤ length table.now) × (k ≤ 65536) }
+    ensures some { IfSome result (λ n. (n ≤ length rows.new) × (take n rows.new ≡ gathered k table.now)) }
+    ensures none { IfNone result (length rows.new < length (gathered k table.now)) }
 {
     let mut n = 0;
-    let mut i = free_front(table, k);
-    while i < k {
-        n = take_in(rows, n, most, i, table[i]);
-        i += 1;
+    for i in free_front(table, k)..k {
+        if is_taken(table[i]) {
+            if n == rows.len() {
+                return None;
+            }
+            rows[n] = Row {
+                slot: i as u16,
+                note: NOTE_NONE,
+                it: table[i],
+            };
+            n += 1;
+        }
     }
-    n
+    Some(n)
 }
 
-// The first m rows over the table, each at its slot.
-pub fn scatter_back(table: &mut [Record], rows: &[u32], m: usize)
-    requires { (m ≤ length (hand rows.now)) × Within (length table.old) (take m (hand rows.now)) }
-    ensures { table.new ≡ scatter (take m (hand rows.now)) table.old }
+// The rows over the table, each at its slot.
+pub fn scatter_back(table: &mut [Record], rows: &[Row])
+    requires { Within (length table.old) rows.now }
+    ensures { table.new ≡ scatter rows.now table.old }
 {
-    let mut i = m;
-    while 0 < i {
-        i -= 1;
-        let s = slot_at(rows, i);
-        table[s] = record_at(rows, i);
+    for i in (0..rows.len()).rev() {
+        table[rows[i].slot as usize] = rows[i].it;
     }
 }
 
@@ -335,16 +166,5 @@ pub fn wipe(table: &mut [Record], k: usize)
     requires { k ≤ length table.old }
     ensures { table.new ≡ wiped k table.old }
 {
-    let mut i = 0;
-    while i < k {
-        table[i] = Record {
-            stream: 0,
-            in_use: 0,
-            snbase: 0,
-            timestamp_recovery: 0,
-            length_recovery: 0,
-            payload_length: 0,
-        };
-        i += 1;
-    }
+    table[..k].fill(Record::default());
 }

@@ -3,6 +3,7 @@ use Rattle.std.specs.Prelude.{Bool, ◌||◌, List, ℕ, ◌*◌, ltb, length, g
 use Rattle.xor.specs.Xor.{padded}
 use Rattle.window.specs.declared.Record.{Record}
 use Rattle.window.specs.declared.Sizes.{Sizes}
+use Rattle.window.specs.declared.StoreView.{StoreView}
 use Rattle.window.specs.declared.Window.{Window}
 use Rattle.window.specs.Record.{blank}
 use Rattle.window.specs.Limits.{rows}
@@ -20,6 +21,10 @@ pub record Store : Type 0 where
 abbrev pub stored : (media timestamps lengths marks parity : List ℕ) → List Record → Store
 stored media timestamps lengths marks parity records =
     record { media = media; timestamps = timestamps; lengths = lengths; marks = marks; parity = parity; records = records }
+
+-- the store of parts that are lent to be read, and of a table
+abbrev pub viewed : StoreView → List Record → Store
+viewed v records = stored v.media.now v.timestamps.now v.lengths.now v.marks.now v.parity.now records
 
 -- how many elements each part has
 abbrev pub sizes_of : Store → Sizes

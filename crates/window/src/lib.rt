@@ -3,6 +3,7 @@
 // The window value: its set-up numbers, its limits, what the lent store needs, and whether that store is in order.
 ghost use Rattle.std.specs.Prelude.{◌≡◌, true, cond, not, ◌&&◌, ◌||◌, ◌+◌, ◌*◌, ◌<◌, ◌≤◌, eqb, leb, ltb, length, get_or};
 ghost use Rattle.answer.specs.First.{first};
+ghost use Rattle.answer.specs.Refused.{fault_of};
 ghost use Rattle.sequence.specs.Lists.{up_to, all, count};
 ghost use Rattle.window.specs.Limits.{most_side, most_matrix, most_positions, most_records, least_missing, one_to_seven, set_up_tests};
 ghost use Rattle.window.specs.Record.{blank};
@@ -11,6 +12,8 @@ ghost use Rattle.window.specs.Bounds.{SetUp};
 ghost use Rattle.window.specs.Group.{inside};
 ghost use Rattle.window.specs.Look.{at_least};
 ghost use Rattle.window.specs.Order.{is_mark, is_present, marks_good, lengths_good, shape_good};
+
+use answer::Refusal;
 
 // Most columns, and most rows, of a parity matrix.
 pub const MOST_SIDE: usize = 20;
@@ -28,7 +31,7 @@ pub const MOST_RECORDS: usize = 128;
 pub const LEAST_MISSING: usize = 2;
 
 #[repr(C)]
-#[derive(Clone, Copy)]
+#[derive(Clone, Copy, Default)]
 pub struct Window {
     // sequence number of position 0
     pub base: u16,
@@ -59,10 +62,43 @@ pub struct Sizes {
     pub records: usize,
 }
 
+impl Sizes {
+    // The sizes of the parts of a store whose table has so many records.
+    pub fn of(
+        media: &[u8],
+        timestamps: &[u32],
+        lengths: &[u16],
+        marks: &[u8],
+        parity: &[u8],
+        records: usize,
+    ) -> Sizes
+        ensures { result ≡ record { media = length media.now; timestamps = length timestamps.now; lengths = length lengths.now; marks = length marks.now; parity = length parity.now; records = records } }
+    {
+        Sizes {
+            media: media.len(),
+            timestamps: timestamps.len(),
+            lengths: lengths.len(),
+            marks: marks.len(),
+            parity: parity.len(),
+            records,
+        }
+    }
+}
+
+// The parts of a lent store but for its records, to be read.
+#[derive(Clone, Copy)]
+pub struct StoreView<'a> {
+    pub media: &'a [u8],
+    pub timestamps: &'a [u32],
+    pub lengths: &'a [u16],
+    pub marks: &'a [u8],
+    pub parity: &'a [u8],
+}
+
 // A parity packet in hand: its stream (0 a column, 1 a row), in-use mark, SNBase, timestamp and length recovery and the length
 // of its own payload, in twelve bytes with no gap. Its payload stands at the same index of the parity bytes.
 #[repr(C)]
-#[derive(Clone, Copy)]
+#[derive(Clone, Copy, Default)]
 pub struct Record {
     pub stream: u8,
     pub in_use: u8,
@@ -76,14 +112,7 @@ pub struct Record {
 pub fn free_record() -> Record
     ensures { result ≡ blank }
 {
-    Record {
-        stream: 0,
-        in_use: 0,
-        snbase: 0,
-        timestamp_recovery: 0,
-        length_recovery: 0,
-        payload_length: 0,
-    }
+    Record::default()
 }
 
 // What a look at the members of a group finds, in their order and up to the second that is missing; the last number is how
@@ -159,20 +188,20 @@ fn bad_room(l: usize, d: usize, n: usize, k: usize) -> bool
 }
 
 impl Window {
-    // The first of refusals 1 to 3 that applies, or 0.
-    pub fn set_up_fault(self) -> u8
-        ensures { result ≡ first (set_up_tests self) }
+    // Refusals 1 to 3, in this order.
+    pub fn check_set_up(self) -> Result<(), Refusal>
+        ensures { fault_of result ≡ first (set_up_tests self) }
     {
         if bad_profile(self.l, self.d) {
-            return 1;
+            return Err(Refusal::BadMatrix);
         }
         if bad_payload(self.p) {
-            return 2;
+            return Err(Refusal::BadPayload);
         }
         if bad_room(self.l, self.d, self.n, self.k) {
-            return 3;
+            return Err(Refusal::BadRoom);
         }
-        0
+        Ok(())
     }
 
     // 4: a part of the lent store has fewer elements than the window needs.
@@ -217,12 +246,10 @@ fn ones_between(marks: &[u8], from: usize, to: usize) -> Ones
 {
     let mut ones: u8 = 0;
     let mut all: u8 = 0;
-    let mut i = from;
-    while i < to {
+    for i in from..to {
         let mark = marks[i];
         ones += (mark == 1) as u8;
-        all = all | mark;
-        i += 1;
+        all |= mark;
     }
     Ones { ones, all }
 }
@@ -248,7 +275,7 @@ impl Window {
             let to = block_end(at, n);
             let r = ones_between(marks, at, to);
             ones += r.ones as usize;
-            good = good & (r.all <= 1);
+            good &= (r.all <= 1);
             at = to;
         }
         Counted { ones, good }
@@ -272,10 +299,8 @@ impl Window {
         let n = self.n;
         let p = self.p as u16;
         let mut full = true;
-        let mut i = 0;
-        while i < n {
-            full = full & (lengths[i] == wanted(marks[i], p));
-            i += 1;
+        for i in 0..n {
+            full &= (lengths[i] == wanted(marks[i], p));
         }
         full
     }
@@ -288,10 +313,8 @@ impl Window {
         let n = self.n;
         let p = self.p;
         let mut good = true;
-        let mut i = 0;
-        while i < n {
-            good = good & ((marks[i] != 1) | rtp::good_length(p, rtp::wide(lengths[i])));
-            i += 1;
+        for i in 0..n {
+            good &= ((marks[i] != 1) | rtp::good_length(p, rtp::wide(lengths[i])));
         }
         good
     }

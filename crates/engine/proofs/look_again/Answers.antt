@@ -1,33 +1,23 @@
 -- `engine::look_again` meets its contract: after j turns the first j rows are right again. Assumes nothing.
-use mathlib.Core.Path.{refl}
-use Rattle.table.specs.View.{hand}
-use Rattle.table.specs.Laws.{length-same}
+use Rattle.std.proofs.Common.{refl, arith}
 use Rattle.engine.proofs.Again.{again_none, again_more, again_all, alike-inside}
-use native.Mathlib.Omega.{arith}
 use Rattle.engine.proofs.look_again.Goals as goal
 
 pub loop-j-init : goal.loop-j-init
-loop-j-init c =
-    let the-args = c.args in
-    (omega arith, again_none the-args.w the-args.i the-args.marks.now (hand the-args.rows.now), refl)
+loop-j-init c = let a = c.args in (again_none a.w a.i a.marks.now a.rows.now, refl)
 
 pub look_again_at-requires : goal.look_again_at-requires
 look_again_at-requires c =
-    let the-pre = c.requires in
-    let the-loop = c.loop-j in
-    let the-args = c.args in
-    (the-pre.0, the-pre.1, omega (arith, the-pre.2, length-same the-loop.rows the-args.rows.now the-loop.invariant.2), alike-inside the-args.w (hand the-args.rows.now) (hand the-loop.rows) the-loop.invariant.1.alike the-pre.3)
+    let l = c.loop-j in
+    (c.requires.0, c.requires.1, omega (arith, l.invariant.1), alike-inside c.args.w c.args.rows.now l.rows l.invariant.0.alike c.requires.2)
 
 pub loop-j-preserved : goal.loop-j-preserved
 loop-j-preserved c =
-    let the-args = c.args in
-    let the-loop = c.loop-j in
-    let the-look-again-at = c.look_again_at in
-    (omega arith, again_more the-args.w the-args.i the-args.marks.now the-loop.j (hand the-args.rows.now) (hand the-loop.rows) _ the-loop.invariant.1 the-look-again-at.ensures, omega (arith, the-look-again-at.auto))
+    let a = c.args in
+    let l = c.loop-j in
+    (again_more a.w a.i a.marks.now l.j a.rows.now l.rows _ l.invariant.0 c.look_again_at.ensures, omega (arith, c.look_again_at.auto, l.invariant.1))
 
 pub returns : goal.returns
 returns c =
-    let the-args = c.args in
-    let the-loop = c.loop-j in
-    let the-pre = c.requires in
-    again_all the-args.w the-args.i the-args.marks.now the-loop.j (hand the-args.rows.now) _ (omega (arith, the-pre.2)) the-loop.invariant.1
+    let a = c.args in
+    again_all a.w a.i a.marks.now c.loop-j.j a.rows.now _ (omega arith) c.loop-j.invariant.0

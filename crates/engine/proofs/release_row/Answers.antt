@@ -1,18 +1,16 @@
 -- `engine::release_row` meets its contract: each return is a way through `free_if`. Assumes nothing.
-use mathlib.Core.Path.{sym, ap, ◌∙◌}
-use borrow.Author.Tests.{eq-eqb, ne_eqb}
-use Rattle.window.specs.declared.Record.{Record}
-use Rattle.window.specs.Order.{used}
+use Rattle.std.proofs.Common.{eq-eqb, ne_eqb}
+use Rattle.table.specs.View.{note_at, it_at}
 use Rattle.engine.proofs.release_row.Goals as goal
 
-pub returns-then-v-ne1 : goal.returns-then-v-ne1
-returns-then-v-ne1 c = rw (← c.record_at-v.ensures, ne_eqb c.record_at-v.result.in_use 1 c.if-v-ne1.true)
+pub returns-then-rows-i-ne1 : goal.returns-then-rows-i-ne1
+returns-then-rows-i-ne1 c = rw (ne_eqb (it_at c.args.rows.now c.args.i).in_use 1 c.if-rows-i-ne1.true)
 
-pub returns-then-note_at-ne-NOTE_NONE : goal.returns-then-note_at-ne-NOTE_NONE
-returns-then-note_at-ne-NOTE_NONE c = rw (← c.record_at-v.ensures, eq-eqb c.record_at-v.result.in_use 1 c.if-v-ne1.false, ← c.note_at.ensures, ne_eqb c.note_at.result 0 c.if-note_at-ne-NOTE_NONE.true)
+pub returns-then-rows-i-ne-NOTE_NONE : goal.returns-then-rows-i-ne-NOTE_NONE
+returns-then-rows-i-ne-NOTE_NONE c = rw (eq-eqb (it_at c.args.rows.now c.args.i).in_use 1 c.if-rows-i-ne1.false, ne_eqb (note_at c.args.rows.now c.args.i) 0 c.if-rows-i-ne-NOTE_NONE.true)
 
 pub free_row-requires : goal.free_row-requires
-free_row-requires c = (c.requires.0, c.requires.1 (ap (λ (v : Record). used v) (sym c.record_at-v.ensures) ∙ eq-eqb c.record_at-v.result.in_use 1 c.if-v-ne1.false), c.requires.2)
+free_row-requires c = (c.requires.0, c.requires.1 (eq-eqb (it_at c.args.rows.now c.args.i).in_use 1 c.if-rows-i-ne1.false), c.requires.2)
 
 pub returns : goal.returns
-returns c = rw (c.free_row.ensures, ← c.record_at-v.ensures, eq-eqb c.record_at-v.result.in_use 1 c.if-v-ne1.false, ← c.note_at.ensures, eq-eqb c.note_at.result 0 c.if-note_at-ne-NOTE_NONE.false)
+returns c = rw (c.free_row.ensures, eq-eqb (it_at c.args.rows.now c.args.i).in_use 1 c.if-rows-i-ne1.false, eq-eqb (note_at c.args.rows.now c.args.i) 0 c.if-rows-i-ne-NOTE_NONE.false)

@@ -1,14 +1,9 @@
-use mathlib.Core.Path.{◌≡◌}
-use Prim.Native.Nat.{◌≤◌, ◌-◌}
-use lib.ListN.{length, take}
+use Rattle.std.proofs.Common.{◌≡◌, ◌≤◌, length, take}
 use Rattle.sequence.specs.Wrap.{member}
 use Rattle.window.specs.Limits.{width, most_side}
 use Rattle.window.specs.Group.{present}
 use Rattle.group.specs.Along.{along}
 use Rattle.group.proofs.held_along.Given as goal
 
-abbrev pub invariant-loop-j : goal.invariant-loop-j
-invariant-loop-j l = (l.j ≤ l.na) × (l.n ≤ l.j) × (length l.rows ≡ most_side) × (l.number ≡ member width l.snbase l.offset l.j) × (take l.n l.rows ≡ present l.marks (along l.base l.snbase l.offset l.j))
-
-abbrev pub decreases-loop-j : goal.decreases-loop-j
-decreases-loop-j l = l.na - l.j
+abbrev pub invariant-loop : goal.invariant-loop
+invariant-loop l = (l.n ≤ l.counter) × (length l.rows ≡ most_side) × (l.number ≡ member width l.snbase l.offset l.counter) × (take l.n l.rows ≡ present l.marks (along l.base l.snbase l.offset l.counter))

@@ -1,9 +1,11 @@
 -- `load::read` meets its contract.
-use Rattle.load.proofs.Kept.{read_reading}
-use mathlib.Core.Path.{ap, ◌∙◌}
-use Rattle.capture.specs.Stage.{run}
+use Rattle.std.proofs.Common.{◌≡◌, arith}
+use Rattle.std.proofs.lemmas.Grind.{common_steps}
+use Rattle.capture.specs.Calls.{number_at, read_on}
 use Rattle.load.proofs.read.Goals as goal
 
 pub returns : goal.returns
+unfolding read_on
 returns c =
-    read_reading c.args.r c.args.piece.now _ _ _ (c.feed_all-s.ensures.0 ∙ ap (λ s. run s c.args.piece.now) c.stage_of.ensures.0) c.number_at-number.ensures c.reader_of-reader.ensures
+    let n : c.if-is_whole.result ≡ number_at c.feed_all-s.result = grind (arith, common_steps) in
+    rw (n, c.reader_of.ensures, c.feed_all-s.ensures.0, c.stage_of.ensures.0)

@@ -2,4 +2,4 @@
 use Rattle.moving.proofs.advanced.Goals as goal
 
 pub returns : goal.returns
-returns c = rw (c.next-base.ensures, c.less-present.ensures)
+returns c = rw (c.next-base.ensures, c.saturating_sub-present.ensures)

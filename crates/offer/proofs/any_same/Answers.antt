@@ -1,30 +1,20 @@
 -- `offer::any_same` meets its contract: after i turns the flag says whether one of the first i rows holds the same. Assumes nothing.
-use mathlib.Core.Path.{◌≡◌, refl, ap, ◌∙◌}
-use mathlib.Core.Bool.{Bool, ◌||◌}
+use Rattle.std.proofs.Common.{◌≡◌, refl, ap, ◌∙◌, Bool, ◌||◌, length, arith}
 use Rattle.window.proofs.Turn.{turn-any}
-use Rattle.table.specs.View.{hand}
 use Rattle.offer.specs.Rows.{row_same}
-use native.Mathlib.Omega.{arith}
 use Rattle.offer.proofs.any_same.Goals as goal
 
 pub loop-i-init : goal.loop-i-init
-loop-i-init c = (omega arith, refl)
+loop-i-init c = refl
 
 pub row_same-found-requires : goal.row_same-found-requires
-row_same-found-requires c =
-    let the-pre = c.requires in
-    let the-loop = c.loop-i in
-    (omega (arith, the-pre.0), the-pre.1 the-loop.i (omega arith), the-pre.2, the-pre.3)
+row_same-found-requires c = (omega arith, c.requires.0 c.loop-i.i (omega arith), c.requires.1, c.requires.2)
 
 pub loop-i-preserved : goal.loop-i-preserved
 loop-i-preserved c =
-    let the-loop = c.loop-i in
-    let the-row-same = c.row_same-found in
-    let the-args = c.args in
-    (omega arith, ap (λ (t : Bool). the-loop.found || t) the-row-same.ensures ∙ turn-any (row_same the-args.w.p the-args.parity.now (hand the-args.rows.now) the-args.stream the-args.datagram.now) the-loop.i the-loop.found the-loop.invariant.1)
+    let a = c.args in
+    let l = c.loop-i in
+    ap (λ (t : Bool). l.found || t) c.row_same-found.ensures ∙ turn-any (row_same a.w.p a.parity.now a.rows.now a.stream a.datagram.now) l.i l.found l.invariant
 
 pub returns : goal.returns
-returns c =
-    let the-loop = c.loop-i in
-    let the-args = c.args in
-    let e : the-loop.i ≡ the-args.m = omega arith in the-loop.invariant.1 ∙ rw e
+returns c = let e : c.loop-i.i ≡ length c.args.rows.now = omega arith in c.loop-i.invariant ∙ rw e

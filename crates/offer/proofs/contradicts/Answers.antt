@@ -6,6 +6,9 @@ use Rattle.sequence.specs.Lists.{any}
 use Rattle.window.specs.Store.{stored}
 use Rattle.window.specs.Group.{group, is_missing}
 use Rattle.window.specs.Plain.{Inside}
+use Rattle.rtp.specs.Fec.{parity_header_size}
+use lib.ListN.{length-drop}
+use Rattle.offer.proofs.Tests.{carried_is}
 use Rattle.offer.proofs.Place.{uncontradicted, whole-group, contradicted}
 use native.Mathlib.Omega.{arith}
 use Rattle.offer.proofs.contradicts.Goals as goal
@@ -14,9 +17,6 @@ pub returns-then-lacks : goal.returns-then-lacks
 returns-then-lacks c =
     let a = c.args in
     λ parity t. uncontradicted a.w a.stream a.datagram.now (stored a.media.now a.timestamps.now a.lengths.now a.marks.now parity t) a.found c.requires.2 c.lacks.result c.lacks.ensures c.if-lacks.true
-
-pub overflow_sub-datagram : goal.overflow_sub-datagram
-overflow_sub-datagram c = omega (arith, c.requires.3.0)
 
 pub defines-requires : goal.defines-requires
 defines-requires c =
@@ -27,8 +27,7 @@ defines-requires c =
       p.0,
       subst (Inside a.w a.stream) (sym e) p.1,
       ap (λ (n : ℕ). any (is_missing a.marks.now) (group a.w a.stream n)) e ∙ whole-group a.w a.stream a.datagram.now s a.found p.2 c.lacks.result c.lacks.ensures c.if-lacks.false,
-      omega (arith, p.3.0, p.3.1),
-      omega (arith, p.3.0),
+      rw c.recovery_of.ensures.2 (rw (length-drop parity_header_size a.datagram.now) (omega (arith, p.3.1))),
       p.4,
       p.5,
       p.6,
@@ -39,6 +38,7 @@ defines-requires c =
 pub returns : goal.returns
 returns c =
     let a = c.args in
+    let r = c.recovery_of in
     λ parity t.
     contradicted a.w a.stream a.datagram.now (stored a.media.now a.timestamps.now a.lengths.now a.marks.now parity t) a.found c.requires.2 c.lacks.result c.lacks.ensures c.if-lacks.false
-    c.snbase.result c.timestamp_recovery.result c.length_recovery.result c.snbase.ensures c.timestamp_recovery.ensures c.length_recovery.ensures c.defines.result (c.defines.ensures parity t)
+    c.snbase.result c.snbase.ensures _ (carried_is a.w.p a.datagram.now _ _ _ r.ensures.0 r.ensures.1 r.ensures.2) c.defines.result (c.defines.ensures parity t)

@@ -4,7 +4,6 @@ use mathlib.Core.Bool.{◌||◌}
 use Rattle.window.proofs.Turn.{turn-any}
 use Rattle.window.specs.declared.Record.{Record}
 use Rattle.window.specs.Order.{used, same_group}
-use Rattle.table.specs.View.{hand}
 use Rattle.order.specs.Rows.{names}
 use mathlib.Core.Bool.{◌&&◌}
 use native.Mathlib.Omega.{arith}
@@ -23,8 +22,7 @@ pub loop-j-preserved : goal.loop-j-preserved
 loop-j-preserved c =
     let the-loop = c.loop-j in
     let the-args = c.args in
-    let the-record-at = c.record_at-u in
-    (omega arith, ap (λ (u : Record). the-loop.found || (used u && same_group u the-args.v)) the-record-at.ensures ∙ turn-any (names (hand the-args.rows.now) the-args.v) the-loop.j the-loop.found the-loop.invariant.1)
+    (omega arith, turn-any (names the-args.rows.now the-args.v) the-loop.j the-loop.found the-loop.invariant.1)
 
 pub returns : goal.returns
 returns c =

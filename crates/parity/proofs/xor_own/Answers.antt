@@ -1,51 +1,40 @@
 -- `parity::xor_own` meets its contract: one row a turn, at its own length. Assumes nothing.
--- a row at its own length, but no more than most bytes
-use mathlib.Core.Path.{◌≡◌, refl, sym, ap, ◌∙◌}
-use mathlib.Core.Logic.{◌⊎◌}
-use mathlib.Core.List.{List}
-use Prim.Native.Nat.{ℕ, ◌≤◌, ◌+◌, ◌*◌}
-use lib.ListN.{length, get_or, drop, length-drop}
-use Rattle.xor.specs.Xor.{xor_at}
+use Rattle.std.proofs.Common.{◌≡◌, ◌⊎◌, inl, inr, sym, ap, ◌∙◌, ℕ, List, min, ◌<◌, ◌≤◌, ◌+◌, ◌*◌, ◌-◌, length, get_or, take, drop, length-drop, length-take-le, take-take, arith}
+use Rattle.std.proofs.Math.Decide.{dec_lt}
+use Rattle.xor.specs.Xor.{xor_at, padded}
 use Rattle.xor.specs.Padded.{padded-cut, xor-padded}
 use Rattle.parity.specs.Rows.{row_of}
 use Rattle.parity.specs.Own.{lists_more}
-use native.Mathlib.Omega.{arith}
 use Rattle.parity.proofs.xor_own.Goals as goal
 
-one-row : (p most at : ℕ) (media lengths d : List ℕ) (row m : ℕ) → most ≤ p → at + most ≤ length d → row * p + p ≤ length media → m ≤ most
-    → (m ≡ get_or lengths row 0) ⊎ ((m ≡ most) × (most ≤ get_or lengths row 0)) → xor_at d at (drop (row * p) media) m ≡ xor_at d at (row_of p most media lengths row) most
-one-row p most at media lengths d row m hp hd hm h e =
+-- the smaller of a length and a size
+smaller : (n most m : ℕ) → m ≡ min n most → (m ≡ n) ⊎ ((m ≡ most) × (most ≤ n))
+smaller n most m e = go (dec_lt n most)
+  where
+    go : Dec (n < most) → (m ≡ n) ⊎ ((m ≡ most) × (most ≤ n))
+    go (yes h) = inl (omega arith)
+    go (no h) = inr (omega arith, omega arith)
+
+-- a row at its own length, but no more than `most` bytes
+one-row : (p most : ℕ) (media lengths d new : List ℕ) (row m k : ℕ) → most ≤ p → length d ≡ most → row * p + p ≤ length media → m ≡ min (get_or lengths row 0) most → k ≡ m
+    → new ≡ xor_at d 0 (take k (drop (row * p) media)) (length (take k (drop (row * p) media))) → new ≡ xor_at d 0 (row_of p most media lengths row) most
+one-row p most media lengths d new row m k hp ed hm em ek e =
     let s : List ℕ = drop (row * p) media in
-    let long : m ≤ length s = simp length-drop (omega arith) in
-    xor-padded d at s m most h hd long ∙ ap (λ (l : List ℕ). xor_at d at l most) (sym (padded-cut (get_or lengths row 0) m most s e long))
+    let ls = length-drop (row * p) media in
+    let ld : length (take k s) ≡ k = length-take-le k s (omega arith) in
+    e ∙ ap (xor_at d 0 (take k s)) ld
+    ∙ xor-padded d 0 (take k s) k most (omega arith) (omega arith) (omega arith)
+    ∙ ap (λ (l : List ℕ). xor_at d 0 (padded most l) most) (take-take k k s (omega arith))
+    ∙ ap (λ (l : List ℕ). xor_at d 0 l most) (sym (padded-cut (get_or lengths row 0) k most s (smaller (get_or lengths row 0) most k (omega arith)) (omega arith)))
 
-pub loop-i-init : goal.loop-i-init
-loop-i-init c = (omega arith, refl, refl)
-
-pub overflow_mul-row : goal.overflow_mul-row
-overflow_mul-row c = omega (arith, c.requires.2.ends c.loop-i.i (omega arith))
-
-pub offset_bounds-lengths-row : goal.offset_bounds-lengths-row
-offset_bounds-lengths-row c = omega (arith, c.requires.3 c.loop-i.i (omega arith))
-
-pub bounds-lengths-row : goal.bounds-lengths-row
-bounds-lengths-row c = c.requires.3 c.loop-i.i (omega arith)
-
-pub xor_at-requires : goal.xor_at-requires
-xor_at-requires c = (omega (arith, c.at_most.ensures.0), omega (arith, c.requires.2.ends c.loop-i.i (omega arith), c.at_most.ensures.0))
-
-pub loop-i-preserved : goal.loop-i-preserved
-loop-i-preserved c =
-    let l = c.loop-i in
+pub loop-row-preserved : goal.loop-row-preserved
+loop-row-preserved c =
+    let l = c.loop-row in
     let a = c.args in
-    let s = c.requires in (
-      omega arith,
-      c.xor_at.ensures
-          ∙ one-row a.p a.most a.at a.media.now a.lengths.now l.sum (get_or a.rows.now l.i 0) c.at_most.result s.0 (omega (arith, l.invariant.2, s.1)) (s.2.ends l.i (omega arith)) c.at_most.ensures.0 c.at_most.ensures.1
-          ∙ ap (λ (d : List ℕ). xor_at d a.at (row_of a.p a.most a.media.now a.lengths.now (get_or a.rows.now l.i 0)) a.most) l.invariant.1
-          ∙ lists_more (row_of a.p a.most a.media.now a.lengths.now) a.rows.now l.i a.at a.most a.sum.now (omega (arith, s.2.long)),
-      omega (arith, c.xor_at.auto, l.invariant.2),
-    )
-
-pub returns : goal.returns
-returns c = let e : c.loop-i.i ≡ c.args.n = omega arith in c.loop-i.invariant.1 ∙ rw e
+    let s = c.requires in
+    let most : ℕ = length a.sum.now in
+    let row : ℕ = get_or a.rows.now l.row-index 0 in
+    let k : row * a.p + c.min-size.result - row * a.p ≡ c.min-size.result = omega arith in
+    one-row a.p most a.media.now a.lengths.now l.sum c.xor_into.new.dst row c.min-size.result (row * a.p + c.min-size.result - row * a.p) s.0 l.auto.sum (s.1 l.row-index (omega arith)) (c.min-size.ensures ∙ ap (min (get_or a.lengths.now row 0)) l.auto.sum) k c.xor_into.ensures
+    ∙ ap (λ (d : List ℕ). xor_at d 0 (row_of a.p most a.media.now a.lengths.now row) most) l.invariant
+    ∙ lists_more (row_of a.p most a.media.now a.lengths.now) a.rows.now l.row-index 0 most a.sum.now (omega arith)

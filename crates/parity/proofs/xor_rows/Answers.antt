@@ -1,21 +1,20 @@
--- `parity::xor_rows` meets its contract. Assumes nothing.
-use mathlib.Core.Path.{ap, ◌∙◌}
-use Prim.Native.Nat.{ℕ}
-use native.Mathlib.Omega.{arith}
-use mathlib.Core.List.{List}
-use lib.ListN.{take, drop}
+-- `parity::xor_rows` meets its contract: tens, fours, and the rest. Assumes nothing.
+use Rattle.std.proofs.Common.{◌≡◌, ap, ◌∙◌, ℕ, List, ◌-◌, length, take, drop, take_all, arith}
 use Rattle.xor.specs.Xor.{xor_parts}
 use Rattle.parity.specs.Rows.{places}
-use Rattle.parity.proofs.Turns.{rows_then}
+use Rattle.parity.proofs.Turns.{after}
 use Rattle.parity.proofs.xor_rows.Goals as goal
 
 pub returns : goal.returns
 returns c =
-    let s = c in
-    let a = s.args in
-    let tens = c.xor_tens-tens in
-    let fours = c.xor_fours-fours in
-    let until : ℕ → ℕ → List ℕ → List ℕ = λ from to l. xor_parts a.media.now (places a.p (drop from (take to a.rows.now))) a.at a.p l in
-    c.xor_rest.ensures
-    ∙ ap (until fours.result a.n) (fours.ensures.2 ∙ ap (until tens.result fours.result) tens.ensures.2 ∙ rows_then a.media.now a.rows.now a.at a.p a.sum.now a.from tens.result fours.result tens.ensures.0 fours.ensures.0 (omega (arith, s.requires.2.long, fours.ensures.1)))
-    ∙ rows_then a.media.now a.rows.now a.at a.p a.sum.now a.from fours.result a.n (omega (arith, tens.ensures.0, fours.ensures.0)) fours.ensures.1 s.requires.2.long
+    let a = c.args in
+    let tens = c.xor_groups-tens in
+    let fours = c.xor_groups-fours in
+    let last = c.xor_groups in
+    let r : List ℕ = take (length a.rows.now - tens.result) (drop tens.result a.rows.now) in
+    let q : List ℕ = take (length r - fours.result) (drop fours.result r) in
+    let n : ℕ = length fours.new.sum in
+    let all : last.new.sum ≡ xor_parts a.media.now (places n q) 0 n fours.new.sum =
+    last.ensures.2 ∙ ap (λ (l : List ℕ). xor_parts a.media.now (places n l) 0 n fours.new.sum) (take_all last.result q (omega (arith, last.ensures.1))) in
+    after a.media.now a.sum.now a.rows.now tens.new.sum last.new.sum (length a.sum.now) (length tens.new.sum) tens.result tens.auto.sum tens.ensures.2
+    (after a.media.now tens.new.sum r fours.new.sum last.new.sum (length tens.new.sum) n fours.result fours.auto.sum fours.ensures.2 all)

@@ -1,15 +1,9 @@
 -- `save::short_bodies` meets its contract.
-use mathlib.Core.Path.{refl, sym, ◌∙◌}
-use native.Mathlib.Omega.{arith}
+use Rattle.std.proofs.Common.{rules}
+use Rattle.std.proofs.iter.runs.Made.{chains}
+use Rattle.sequence.proofs.Chains.{all_decided}
 use Rattle.capture.specs.Calls.{short_body}
-use Rattle.save.proofs.Turns.{all-turn, all_end}
 use Rattle.save.proofs.short_bodies.Goals as goal
 
-pub loop-i-init : goal.loop-i-init
-loop-i-init c = (omega arith, refl)
-
-pub loop-i-preserved : goal.loop-i-preserved
-loop-i-preserved c = let l = c.loop-i in (omega arith, all-turn short_body c.args.lengths.now l.i l.is _ (omega arith) (refl) ∙ l.invariant.1)
-
 pub returns : goal.returns
-returns c = let l = c.loop-i in sym (all_end short_body c.args.lengths.now l.i l.is (omega arith)) ∙ l.invariant.1
+returns c = all_decided short_body c.args.lengths.now c.all.result (search (rules, chains))

@@ -1,6 +1,5 @@
 -- `schedule::due_of` meets its contract.
-use native.Mathlib.Omega.{arith}
-use Prim.Native.Nat.{◌+◌}
+use Rattle.std.proofs.Common.{arith, ◌+◌}
 use Rattle.schedule.specs.Schedule.{due}
 use Rattle.schedule.proofs.Numbers.{cycles_small, column-small, lines-small, start_small}
 use Rattle.schedule.proofs.due_of.Goals as goal

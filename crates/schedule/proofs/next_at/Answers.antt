@@ -1,6 +1,5 @@
 -- `schedule::next_at` meets its contract.
-use Prim.Native.Nat.{◌+◌, ◌*◌}
-use borrow.Author.Tests.{eq-eqb, ne_eqb}
+use Rattle.std.proofs.Common.{◌+◌, ◌*◌, eq-eqb, ne_eqb}
 use Rattle.schedule.specs.Schedule.{onward}
 use Rattle.schedule.proofs.next_at.Goals as goal
 

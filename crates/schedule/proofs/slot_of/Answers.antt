@@ -1,6 +1,5 @@
 -- `schedule::slot_of` meets its contract.
-use native.Mathlib.Omega.{arith}
-use mathlib.Core.Path.{refl}
+use Rattle.std.proofs.Common.{arith, refl}
 use Rattle.schedule.specs.Schedule.{slot}
 use Rattle.schedule.proofs.Numbers.{slot-fits}
 use Rattle.schedule.proofs.slot_of.Goals as goal

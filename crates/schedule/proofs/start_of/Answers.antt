@@ -1,5 +1,5 @@
 -- `schedule::start_of` meets its contract.
-use native.Mathlib.Omega.{arith}
+use Rattle.std.proofs.Common.{arith}
 use Rattle.schedule.proofs.Numbers.{line_small, cycles_small}
 use Rattle.schedule.specs.Schedule.{start}
 use Rattle.schedule.proofs.start_of.Goals as goal

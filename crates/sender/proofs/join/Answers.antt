@@ -1,40 +1,25 @@
 -- `sender::join` meets its contract.
-use mathlib.Core.Path.{sym}
-use native.Mathlib.Omega.{arith}
-use Prim.Native.Nat.{◌-◌}
-use lib.ListN.{length, length-drop}
-use Rattle.sender.proofs.Ways.{joined-room}
+use Rattle.std.proofs.Common.{◌+◌, ◌-◌, ◌*◌, true, false, ap, refl, length, take, drop, length-drop, arith}
+use Rattle.sender.proofs.Ways.{rest-is, lay-payload, xor-payload, joined-room}
 use Rattle.sender.proofs.join.Goals as goal
 
-pub overflow_sub-size : goal.overflow_sub-size
-overflow_sub-size c = omega (arith, c.requires.1.header)
-
-pub overflow_cast-size : goal.overflow_cast-size
-overflow_cast-size c = omega (arith, c.requires.1.fits, c.requires.1.small)
-
-pub join_payload-requires : goal.join_payload-requires
-join_payload-requires c = (c.requires.0.low, c.requires.0.payload-ends, c.requires.1)
-
-pub bounds-timestamps-slot : goal.bounds-timestamps-slot
-bounds-timestamps-slot c = c.requires.0.timestamp-inside
-
-pub bounds-timestamps-slot-2 : goal.bounds-timestamps-slot-2
-bounds-timestamps-slot-2 c = c.requires.0.timestamp-inside
-
-pub bounds-lengths-slot : goal.bounds-lengths-slot
-bounds-lengths-slot c = c.requires.0.length-inside
-
-pub bounds-lengths-slot-2 : goal.bounds-lengths-slot-2
-bounds-lengths-slot-2 c = c.requires.0.length-inside
-
-pub bounds-longest-slot : goal.bounds-longest-slot
-bounds-longest-slot c = c.requires.0.longest-inside
-
-pub bounds-longest-slot-2 : goal.bounds-longest-slot-2
-bounds-longest-slot-2 c = c.requires.0.longest-inside
-
-pub returns : goal.returns
-returns c =
+pub returns-then-first : goal.returns-then-first
+returns-then-first c =
     let a = c.args in
-    joined-room a.p a.slot a.first a.datagram.now a.payloads.now a.timestamps.now a.lengths.now a.longest.now _ c.timestamp.result (length a.datagram.now - 12) c.joined_stamp.result c.joined_length.result c.joined_longest.result
-    c.timestamp.ensures (sym (length-drop 12 a.datagram.now)) c.join_payload.ensures c.joined_stamp.ensures c.joined_length.ensures c.joined_longest.ensures
+    let at = a.slot * a.p in
+    rw c.if-first.true
+    (joined-room a.p a.slot true a.datagram.now a.payloads.now a.timestamps.now a.lengths.now a.longest.now _ c.timestamp-stamp.result (length (take (length a.datagram.now - 12) (drop 12 a.datagram.now))) _ _ _
+    c.timestamp-stamp.ensures (ap length (rest-is 12 a.datagram.now))
+    (lay-payload a.payloads.now at a.datagram.now 12 a.p (at + a.p - at) (omega arith) c.requires.0.payload-ends c.lay.new.dst c.lay.ensures)
+    refl refl refl)
+
+pub returns-else-first : goal.returns-else-first
+returns-else-first c =
+    let a = c.args in
+    let at = a.slot * a.p in
+    let fits = length-drop 12 a.datagram.now in
+    rw c.if-first.false
+    (joined-room a.p a.slot false a.datagram.now a.payloads.now a.timestamps.now a.lengths.now a.longest.now _ c.timestamp-stamp.result (length (take (length a.datagram.now - 12) (drop 12 a.datagram.now))) _ _ c.max.result
+    c.timestamp-stamp.ensures (ap length (rest-is 12 a.datagram.now))
+    (xor-payload a.payloads.now at a.datagram.now 12 a.p (at + a.p - at) (omega arith) c.requires.0.payload-ends c.xor_into.new.dst (omega (arith, fits, c.requires.1.fits)) c.xor_into.ensures)
+    refl refl c.max.ensures)

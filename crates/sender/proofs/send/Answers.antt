@@ -1,28 +1,19 @@
 -- `sender::send` meets its contract.
-use native.Mathlib.Omega.{arith}
-use Rattle.sender.proofs.Ways.{slot-low, sent-packet}
+use Rattle.std.proofs.Common.{◌≡◌, ◌≤◌, ℕ, List, ◌+◌, ◌*◌, ◌-◌, ◌∙◌, refl, sym, length, get_or, take, drop, length-drop, length-take-le, arith}
+use Rattle.std.proofs.lemmas.Slice.{put_mid-paste}
+use Rattle.sender.proofs.Ways.{sent-packet, pasted-part}
 use Rattle.sender.proofs.send.Goals as goal
-
-pub bounds-longest-slot : goal.bounds-longest-slot
-bounds-longest-slot c = c.requires.3.longest-inside
-
-pub overflow_mul-slot : goal.overflow_mul-slot
-overflow_mul-slot c = omega (arith, slot-low c.args.slot c.args.s.p c.requires.3.low c.requires.0.p-high)
-
-pub copy_at-requires : goal.copy_at-requires
-copy_at-requires c = (omega (arith, c.wide-size.ensures.0, c.requires.4, c.requires.5), omega (arith, c.wide-size.ensures.0, c.requires.4, c.requires.3.payload-ends))
-
-pub bounds-lengths-slot : goal.bounds-lengths-slot
-bounds-lengths-slot c = c.requires.3.length-inside
-
-pub bounds-timestamps-slot : goal.bounds-timestamps-slot
-bounds-timestamps-slot c = c.requires.3.timestamp-inside
-
-pub write_parity-requires : goal.write_parity-requires
-write_parity-requires c = (omega (arith, c.copy_at.auto, c.requires.5), c.requires.1, omega (arith, c.requires.0.profile.l-high), omega (arith, c.requires.0.profile.d-high))
 
 pub returns : goal.returns
 returns c =
     let a = c.args in
-    sent-packet a.s a.o a.stream a.back a.slot a.payloads.now a.timestamps.now a.lengths.now a.longest.now a.out.now _ _ c.next.result c.position-snbase.result c.wide-size.result
-    c.requires.3.payload-ends c.requires.4 c.requires.5 c.wide-size.ensures.0 c.next.ensures c.position-snbase.ensures c.copy_at.ensures c.write_parity.ensures
+    let m = a.sums in
+    let size : ℕ = get_or m.longest.now a.slot 0 in
+    let from : ℕ = a.slot * a.s.p in
+    let y : List ℕ = drop from m.payloads.now in
+    let room : size ≤ length y = simp length-drop (omega (arith, c.requires.3.payload-ends, c.requires.4)) in
+    let n : from + size - from ≡ size = omega arith in
+    let q : c.copy_from_slice.new.self ≡ take size y = rw (← n) c.copy_from_slice.ensures.after in
+    let e = put_mid-paste 28 (28 + size - 28) a.out.now c.copy_from_slice.new.self (take size y) size q (omega arith) (sym (length-take-le size y room)) in
+    sent-packet a.s a.o a.stream a.back a.slot m.payloads.now m.timestamps.now m.lengths.now m.longest.now a.out.now _ _ c.next.result c.position-snbase.result size
+    c.requires.3.payload-ends c.requires.4 c.requires.5 refl c.next.ensures c.position-snbase.ensures (e ∙ pasted-part a.out.now y 28 size) c.write_parity.ensures

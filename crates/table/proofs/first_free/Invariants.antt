@@ -1,13 +1,6 @@
-use Prim.Native.Nat.{◌≤◌, ◌-◌}
-use lib.ListN.{take}
-use Rattle.table.specs.View.{hand}
+-- the rows passed are in use, each with its number as slot
 use Rattle.table.specs.Hold.{Passed}
 use Rattle.table.proofs.first_free.Given as goal
 
 abbrev pub invariant-loop-i : goal.invariant-loop-i
-invariant-loop-i l = (l.i ≤ l.m) × Passed (take l.m (hand l.rows)) l.i
-
--- what each turn makes smaller
-
-abbrev pub decreases-loop-i : goal.decreases-loop-i
-decreases-loop-i l = l.m - l.i
+invariant-loop-i l = Passed l.rows l.i

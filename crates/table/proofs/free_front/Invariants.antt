@@ -1,5 +1,5 @@
--- i is a whole number of fours, and none is gathered of the records passed
-use Rattle.std.proofs.Common.{◌≡◌, [], ◌≤◌, ◌-◌, ◌%◌}
+-- none is gathered of the records passed
+use Rattle.std.proofs.Common.{◌≡◌, [], ◌-◌, ◌%◌, ◌≤◌}
 use Rattle.table.specs.Gather.{gathered}
 use Rattle.table.proofs.free_front.Given as goal
 

@@ -1,11 +1,7 @@
--- the rows gathered of the records passed
-use Rattle.std.proofs.Common.{◌≤◌, ◌-◌}
-use Rattle.table.specs.View.{hand}
-use Rattle.table.specs.Gather.{gathered, Gathered}
+-- the records in use passed are gathered
+use Rattle.std.proofs.Common.{◌≡◌, ◌≤◌, length, take}
+use Rattle.table.specs.Gather.{gathered}
 use Rattle.table.proofs.gather.Given as goal
 
 abbrev pub invariant-loop-i : goal.invariant-loop-i
-invariant-loop-i l = (l.i ≤ l.k) × Gathered l.most l.n (hand l.rows) (gathered l.i l.table)
-
-abbrev pub decreases-loop-i : goal.decreases-loop-i
-decreases-loop-i l = l.k - l.i
+invariant-loop-i l = (l.n ≤ length l.rows) × (take l.n l.rows ≡ gathered l.i l.table)

@@ -13,6 +13,3 @@ invariant-loop-i l =
     × (count (is_present l.marks) (up_to l.from) + l.ones ≡ count (is_present l.marks) (up_to l.i))
     × (l.from + l.ones ≤ l.i)
     × ((all (good_mark l.marks) (up_to l.from) && is_mark l.all) ≡ all (good_mark l.marks) (up_to l.i))
-
-abbrev pub decreases-loop-i : goal.decreases-loop-i
-decreases-loop-i l = l.to - l.i

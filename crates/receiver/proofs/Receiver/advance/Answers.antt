@@ -1,31 +1,24 @@
 -- `receiver::Receiver::advance` meets its contract: the move on the rows. Assumes nothing.
-use mathlib.Core.Path.{refl, sym}
 use Rattle.calls.specs.Move.{moved}
-use Rattle.receiver.proofs.Part.{part_words, part_long}
-use Rattle.receiver.proofs.Ways.{unmoved, move_step}
-use native.Mathlib.Omega.{arith}
+use Rattle.receiver.proofs.Ways.{unmoved, move_step, unmade_step}
 use Rattle.receiver.proofs.Receiver.advance.Goals as goal
 
 pub returns-then-not-has_room : goal.returns-then-not-has_room
 returns-then-not-has_room c =
     let a = c.args in
-    rw c.handed.ensures (unmoved a.self.window.k a.len a.m a.words.now c.has_room.result c.has_room.ensures.1 (c.if-not-has_room.true) (λ s. moved a.self.window a.by s a.out.now a.sizes.now) a.media.now a.timestamps.now a.lengths.now a.marks.now a.parity.now a.out.now a.sizes.now _)
+    let w = a.self.window in
+    rw c.handed.ensures (unmoved w.k a.len a.m a.rows.now c.has_room.result c.has_room.ensures.1 c.if-not-has_room.true (λ s. moved w a.by s a.out.now a.sizes.now) a.media.now a.timestamps.now a.lengths.now a.marks.now a.parity.now a.out.now a.sizes.now _)
 
-pub overflow_mul-e : goal.overflow_mul-e
-overflow_mul-e c = omega (arith, c.has_room.ensures.0 (c.if-not-has_room.false), c.well_formed)
-
-pub slice_bounds-advance-end : goal.slice_bounds-advance-end
-slice_bounds-advance-end c = omega (arith, (c.has_room.ensures.0 (c.if-not-has_room.false)).1)
-
-pub slice_bounds-advance-end-2 : goal.slice_bounds-advance-end-2
-slice_bounds-advance-end-2 c = let a = c.args in sym (part_words a.words.now a.m (c.has_room.ensures.0 (c.if-not-has_room.false)).1)
-
-pub advance-r-requires : goal.advance-r-requires
-advance-r-requires c = let a = c.args in part_long a.words.now a.m (c.has_room.ensures.0 (c.if-not-has_room.false)).1
-
-pub returns : goal.returns
-returns c =
+pub returns-in-Ok : goal.returns-in-Ok
+returns-in-Ok c =
     let a = c.args in
-    let room = (c.has_room.ensures.0 (c.if-not-has_room.false)).1 in
-    let r = c.advance-r in
-    rw c.handed-2.ensures (move_step a.self.window.k a.len a.m a.words.now room a.self.window a.by a.out.now a.sizes.now refl a.media.now a.timestamps.now a.lengths.now a.marks.now a.parity.now r.result _ _ _ _ _ r.new.rows _ _ (omega (arith, r.auto, part_words a.words.now a.m room)) r.ensures)
+    let r = c.advance in
+    let room = c.has_room.ensures.0 c.if-not-has_room.false in
+    rw c.handed-in-Ok.ensures (move_step a.self.window a.len a.m a.rows.now room.1 r.new.rows r.auto.rows a.by a.out.now a.sizes.now a.media.now a.timestamps.now a.lengths.now a.marks.now a.parity.now _ _ _ _ _ _ _ c.in-Ok.r c.in-Ok.ensures)
+
+pub returns-in-Err : goal.returns-in-Err
+returns-in-Err c =
+    let a = c.args in
+    let r = c.advance in
+    let room = c.has_room.ensures.0 c.if-not-has_room.false in
+    rw c.handed-in-Err.ensures (unmade_step a.self.window a.len a.m a.rows.now room.1 r.new.rows r.auto.rows a.by a.out.now a.sizes.now a.media.now a.timestamps.now a.lengths.now a.marks.now a.parity.now _ _ _ _ _ _ _ c.in-Err.e c.in-Err.ensures)

@@ -1,25 +1,23 @@
 -- `receiver::Receiver::media` meets its contract: the offer on the rows. Assumes nothing.
-use mathlib.Core.Path.{sym}
 use Rattle.calls.specs.Call.{offered_media}
-use Rattle.receiver.proofs.Part.{part_words, part_long}
-use Rattle.receiver.proofs.Ways.{unlaid, plain_step}
-use native.Mathlib.Omega.{arith}
+use Rattle.receiver.proofs.Ways.{unlaid, refused_step, plain_step}
 use Rattle.receiver.proofs.Receiver.media.Goals as goal
 
 pub returns-then-not-has_room : goal.returns-then-not-has_room
-returns-then-not-has_room c = rw c.handed.ensures (unlaid c.args.self.window.k c.args.len c.args.m c.args.words.now c.has_room.result c.has_room.ensures.1 (c.if-not-has_room.true) (offered_media c.args.self.window c.args.datagram.now) c.args.media.now c.args.timestamps.now c.args.lengths.now c.args.marks.now c.args.parity.now _)
+returns-then-not-has_room c = let a = c.args in let w = a.self.window in rw c.handed.ensures (unlaid w.k a.len a.m a.rows.now c.has_room.result c.has_room.ensures.1 c.if-not-has_room.true (offered_media w a.datagram.now) a.media.now a.timestamps.now a.lengths.now a.marks.now a.parity.now _)
 
-pub overflow_mul-e : goal.overflow_mul-e
-overflow_mul-e c = omega (arith, c.has_room.ensures.0 (c.if-not-has_room.false), c.well_formed)
+pub returns-in-Ok : goal.returns-in-Ok
+returns-in-Ok c =
+    let a = c.args in
+    let w = a.self.window in
+    let o = c.offer_media in
+    let room = c.has_room.ensures.0 c.if-not-has_room.false in
+    rw c.handed-in-Ok.ensures (plain_step w a.len a.m a.rows.now room.1 o.new.rows o.auto.rows (offered_media w a.datagram.now) a.media.now a.timestamps.now a.lengths.now a.marks.now a.parity.now c.in-Ok.r _ _ _ _ _ c.in-Ok.ensures.offer c.in-Ok.ensures.held)
 
-pub slice_bounds-offer_media-end : goal.slice_bounds-offer_media-end
-slice_bounds-offer_media-end c = omega (arith, (c.has_room.ensures.0 (c.if-not-has_room.false)).1)
-
-pub slice_bounds-offer_media-end-2 : goal.slice_bounds-offer_media-end-2
-slice_bounds-offer_media-end-2 c = sym (part_words c.args.words.now c.args.m (c.has_room.ensures.0 (c.if-not-has_room.false)).1)
-
-pub offer_media-r-requires : goal.offer_media-r-requires
-offer_media-r-requires c = (part_long c.args.words.now c.args.m (c.has_room.ensures.0 (c.if-not-has_room.false)).1, (c.has_room.ensures.0 (c.if-not-has_room.false)).0)
-
-pub returns : goal.returns
-returns c = rw c.handed-2.ensures (plain_step c.args.self.window.k c.args.len c.args.m c.args.words.now (c.has_room.ensures.0 (c.if-not-has_room.false)).1 (offered_media c.args.self.window c.args.datagram.now) c.args.media.now c.args.timestamps.now c.args.lengths.now c.args.marks.now c.args.parity.now c.offer_media-r.result _ _ _ _ _ c.offer_media-r.new.rows (omega (arith, c.offer_media-r.auto, part_words c.args.words.now c.args.m (c.has_room.ensures.0 (c.if-not-has_room.false)).1)) c.offer_media-r.ensures.0 c.offer_media-r.ensures.1)
+pub returns-in-Err : goal.returns-in-Err
+returns-in-Err c =
+    let a = c.args in
+    let w = a.self.window in
+    let o = c.offer_media in
+    let room = c.has_room.ensures.0 c.if-not-has_room.false in
+    rw c.handed-in-Err.ensures (refused_step w a.len a.m a.rows.now room.1 o.new.rows o.auto.rows (offered_media w a.datagram.now) a.media.now a.timestamps.now a.lengths.now a.marks.now a.parity.now c.in-Err.e _ _ _ _ _ c.in-Err.ensures.offer)

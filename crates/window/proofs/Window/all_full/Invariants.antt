@@ -13,6 +13,3 @@ full_at p lengths marks k = eqb (get_or lengths k 0) (cond (is_present marks k) 
 
 abbrev pub invariant-loop-i : goal.invariant-loop-i
 invariant-loop-i l = (l.i ≤ l.n) × (l.full ≡ all (full_at l.p l.lengths l.marks) (up_to l.i))
-
-abbrev pub decreases-loop-i : goal.decreases-loop-i
-decreases-loop-i l = l.n - l.i

@@ -13,6 +13,3 @@ good-at p lengths marks k = not (is_present marks k) || good_length p (get_or le
 
 abbrev pub invariant-loop-i : goal.invariant-loop-i
 invariant-loop-i l = (l.i ≤ l.n) × (l.good ≡ all (good-at l.p l.lengths l.marks) (up_to l.i))
-
-abbrev pub decreases-loop-i : goal.decreases-loop-i
-decreases-loop-i l = l.n - l.i

@@ -1,7 +1,0 @@
--- `offer::refused` meets its contract. Assumes nothing.
-use Rattle.offer.proofs.refused.Goals as goal
-
-pub returns : goal.returns
-returns c =
-    let the-free-record = c.free_record in
-    rw the-free-record.ensures

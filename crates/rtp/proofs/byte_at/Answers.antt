@@ -1,7 +1,0 @@
--- `rtp::byte_at` meets its contract: past the end the default stands.
-use mathlib.Core.Path.{sym}
-use lib.ListN.{get_or-eq_default}
-use Rattle.rtp.proofs.byte_at.Goals as goal
-
-pub returns-else-i-g : goal.returns-else-i-g
-returns-else-i-g c = sym (get_or-eq_default c.args.g.now 0 c.if-i-g.false)

@@ -1,8 +1,0 @@
--- `sender::joined_longest` meets its contract.
-use Rattle.sender.proofs.joined_longest.Goals as goal
-
-pub returns-then-first : goal.returns-then-first
-returns-then-first c = rw c.if-first.true
-
-pub returns-else-first : goal.returns-else-first
-returns-else-first c = rw c.if-first.false c.longer.ensures

@@ -1,0 +1,10 @@
+-- `xor::xor_byte` meets its contract: one place more each turn. Assumes nothing.
+use Rattle.std.proofs.Common.{arith}
+use Rattle.xor.proofs.Turn.{byte-more}
+use Rattle.xor.proofs.xor_byte.Goals as goal
+
+pub loop-place-preserved : goal.loop-place-preserved
+loop-place-preserved g c =
+    let l = c.loop-place in
+    let a = c.args in
+    rw l.invariant (byte-more a.src.now a.places l.place-index a.i a.byte (omega arith))
