@@ -116,7 +116,7 @@
  * every other call refuses with 1.
  *
  * Stack and time
- *   A call needs less than 8 KiB of stack: 6,921 bytes measured on a painted stack, with
+ *   A call needs less than 8 KiB of stack: 7,304 bytes measured on a painted stack, with
  *   its arguments; tests/guard.c fails above 8 KiB.
  *   Time goes with n, K and P, with the records in use and with the packets rebuilt.
  *   At P 1,316, n 400, K 128 a media packet takes some 0.2 us and the worst call found,

@@ -1,5 +1,5 @@
 -- A refusal's number is none that says that all is well. Assumes nothing.
-use Rattle.std.specs.Prelude.{◌≡◌, refl, ℕ, Result, Ok, Err}
+use Rattle.std.specs.Prelude.{◌≡◌, refl, Result, Ok, Err}
 use Rattle.std.proofs.Common.{arith}
 use Rattle.answer.specs.declared.Refusal.{Refusal}
 use Rattle.answer.specs.declared.Refusal.TheVariants.{BadMatrix, BadPayload, BadRoom, TooShort, Disorder, NoHeader, BadRtp, OtherType, BadLength, BadFec, BadRecovery, OtherProfile, Outside, Repeated, Differs, NoRecord, Missing, Contradicts, NoCapture, BadMove}

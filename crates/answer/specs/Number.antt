@@ -1,10 +1,7 @@
 -- Document 01's number and counts for each case of an answer ("When the desk says no"; 02, request 1).
 use Rattle.std.specs.Prelude.{ℕ}
-
--- what a call answers: done, with its count and how many parity packets were spoilt, or refused, by document 01's number
-pub data Answer : Type 0 where
-  Done : (count spoilt : ℕ) → Answer
-  Refused : (number : ℕ) → Answer
+use Rattle.answer.specs.declared.Answer.{Answer}
+use Rattle.answer.specs.declared.Answer.TheVariants.{Done, Refused}
 
 -- the number: 0 where the call was carried out, else that of the refusal
 abbrev pub number_of : Answer → ℕ

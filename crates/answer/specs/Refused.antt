@@ -3,7 +3,8 @@ use Rattle.std.specs.Prelude.{ℕ, Result, Ok, Err}
 use Rattle.answer.specs.declared.Counts.{Counts}
 use Rattle.answer.specs.declared.Refusal.{Refusal}
 use Rattle.answer.specs.declared.Refusal.TheVariants.{BadMatrix, BadPayload, BadRoom, TooShort, Disorder, NoHeader, BadRtp, OtherType, BadLength, BadFec, BadRecovery, OtherProfile, Outside, Repeated, Differs, NoRecord, Missing, Contradicts, NoCapture, BadMove}
-use Rattle.answer.specs.Number.{Answer, Done, Refused}
+use Rattle.answer.specs.declared.Answer.{Answer}
+use Rattle.answer.specs.declared.Answer.TheVariants.{Done, Refused}
 
 -- the number of a refusal
 abbrev pub refusal_number : Refusal → ℕ

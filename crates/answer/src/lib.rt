@@ -66,32 +66,53 @@ impl From<Refusal> for u8 {
     }
 }
 
+// What a call answers, by document 01's number and counts.
+#[derive(Clone, Copy)]
+pub enum Answer {
+    // Done; the first count is of packets rebuilt by an offer, or of bytes written, the second of parity packets that an offer
+    // released as spoilt.
+    Done(usize, usize),
+    // Refused by this number; nothing lent was altered.
+    Refused(u8),
+}
+
+impl From<Result<Counts, Refusal>> for Answer {
+    ghost from_gives = { λ r a. a ≡ answer_of r };
+
+    fn from(r: Result<Counts, Refusal>) -> Answer {
+        match r {
+            Ok(c) => Answer::Done(c.count, c.spoilt),
+            Err(reason) => Answer::Refused(u8::from(reason)),
+        }
+    }
+}
+
 // The number that document 01 gives the answer: 0, or that of the refusal.
-pub fn number(a: Result<Counts, Refusal>) -> u8
-    ensures { result ≡ number_of (answer_of a) }
+pub fn number(a: Answer) -> u8
+    ensures { result ≡ number_of a }
 {
     match a {
-        Ok(_) => 0,
-        Err(r) => u8::from(r),
+        Answer::Done(_, _) => 0,
+        Answer::Refused(k) => k,
     }
 }
 
 // The count that document 01 gives beside the number: 0 for a refusal.
-pub fn count(a: Result<Counts, Refusal>) -> usize
-    ensures { result ≡ count_of (answer_of a) }
+pub fn count(a: Answer) -> usize
+    ensures { result ≡ count_of a }
 {
     match a {
-        Ok(c) => c.count,
-        Err(_) => 0,
+        Answer::Done(n, _) => n,
+        Answer::Refused(_) => 0,
     }
 }
 
 // How many parity packets an offer released as spoilt: 0 for a refusal.
-pub fn spoilt(a: Result<Counts, Refusal>) -> usize
-    ensures { result ≡ spoilt_of (answer_of a) }
+pub fn spoilt(a: Answer) -> usize
+    ensures { result ≡ spoilt_of a }
 {
     match a {
-        Ok(c) => c.spoilt,
-        Err(_) => 0,
+        Answer::Done(_, n) => n,
+        Answer::Refused(_) => 0,
     }
 }

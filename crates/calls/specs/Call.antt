@@ -1,7 +1,7 @@
 -- The calls: from the window value, the datagram and the lent store to answer, next window value and next store.
 use Rattle.std.specs.Prelude.{Bool, cond, not, ◌&&◌, ◌||◌, List, [], ◌∷◌, ◌++◌, ℕ, ◌+◌, ◌*◌, eqb, leb, ltb, length, drop, replicate}
-use Rattle.answer.specs.Number.{Answer}
-use Rattle.answer.specs.Number.{Done, Refused}
+use Rattle.answer.specs.declared.Answer.{Answer}
+use Rattle.answer.specs.declared.Answer.TheVariants.{Done, Refused}
 use Rattle.answer.specs.First.{first}
 use Rattle.sequence.specs.Lists.{up_to, any}
 use Rattle.rtp.specs.Rtp.{rtp_header_size, sequence_number}

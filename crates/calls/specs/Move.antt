@@ -1,8 +1,8 @@
 -- Moving the window on: the packets that leave are written out, parity with a member among them is released, and the other positions move
 -- down (02, request 5).
 use Rattle.std.specs.Prelude.{Bool, cond, not, ◌&&◌, ◌||◌, List, [], ◌∷◌, ◌++◌, map, ℕ, zero, suc, ◌+◌, ◌*◌, ◌-◌, eqb, ltb, length, take, drop, replicate}
-use Rattle.answer.specs.Number.{Answer}
-use Rattle.answer.specs.Number.{Done, Refused}
+use Rattle.answer.specs.declared.Answer.{Answer}
+use Rattle.answer.specs.declared.Answer.TheVariants.{Done, Refused}
 use Rattle.answer.specs.First.{first}
 use Rattle.xor.specs.Xor.{padded}
 use Rattle.sequence.specs.Lists.{up_to, any, count}

@@ -97,6 +97,7 @@ fn media_over(
 }
 
 // A parity datagram is offered on the port of a stream over a hand of m rows, and what it leaves of them goes back into the table.
+#[inline(always)]
 fn parity_over(
     w: Window,
     stream: u8,
@@ -122,7 +123,32 @@ fn parity_over(
     done.reply
 }
 
-// A parity datagram is offered on the port of a stream.
+// A parity datagram is offered on the port of a stream, over a hand of any number of rows. Never inlined: these rows would be cleared
+// for a small hand too.
+#[inline(never)]
+fn offer_parity_to_many(
+    w: Window,
+    stream: u8,
+    datagram: &[u8],
+    media: &mut [u8],
+    timestamps: &mut [u32],
+    lengths: &mut [u16],
+    marks: &mut [u8],
+    parity: &mut [u8],
+    records: &mut [Record],
+) -> Reply
+    ensures { record { reply = result; store = stored media.new timestamps.new lengths.new marks.new parity.new records.new }
+        ≡ replied (offered_parity stream w datagram.now (stored media.old timestamps.old lengths.old marks.old parity.old records.old)) }
+{
+    let mut many = [Row::default(); 129];
+    let m = gather_all(records, w.k, &mut many);
+    parity_over(
+        w, stream, datagram, media, timestamps, lengths, marks, parity, records, &mut many, m,
+    )
+}
+
+// A parity datagram is offered on the port of a stream. Inlined into the call of each stream: a window that is handed on costs time.
+#[inline(always)]
 fn offer_parity(
     w: Window,
     stream: u8,
@@ -137,20 +163,44 @@ fn offer_parity(
     ensures { record { reply = result; store = stored media.new timestamps.new lengths.new marks.new parity.new records.new }
         ≡ replied (offered_parity stream w datagram.now (stored media.old timestamps.old lengths.old marks.old parity.old records.old)) }
 {
-    let mut few = [Row::default(); 16];
+    let mut few = [Row::default(); face::FEW + 1];
     if let Some(m) = face::gather(records, w.k, &mut few) {
         return parity_over(
             w, stream, datagram, media, timestamps, lengths, marks, parity, records, &mut few, m,
         );
     }
-    let mut many = [Row::default(); 129];
-    let m = gather_all(records, w.k, &mut many);
-    parity_over(
-        w, stream, datagram, media, timestamps, lengths, marks, parity, records, &mut many, m,
+    offer_parity_to_many(
+        w, stream, datagram, media, timestamps, lengths, marks, parity, records,
     )
 }
 
-// The parity datagram of a group of a stream is written.
+// The parity datagram of a group of a stream is written, over a hand of any number of rows. Never inlined, as above.
+#[inline(never)]
+fn write_parity_by_many(
+    w: Window,
+    stream: u8,
+    snbase: u16,
+    sequence: u16,
+    timestamp: u32,
+    ssrc: u32,
+    store: StoreView,
+    records: &[Record],
+    out: &mut [u8],
+) -> Reply
+    requires { stream ≤ 1 }
+    ensures { record { reply = result; out = out.new }
+        ≡ filled (wrote_parity stream w snbase (record { sequence = sequence; timestamp = timestamp; ssrc = ssrc }) (viewed store.entry records.now) out.old) }
+{
+    let len = records.len();
+    let mut many = [Row::default(); 129];
+    let m = gather_all(records, w.k, &mut many);
+    face::write_parity(
+        w, stream, snbase, sequence, timestamp, ssrc, store, &mut many, m, len, out,
+    )
+}
+
+// The parity datagram of a group of a stream is written. Inlined, as above.
+#[inline(always)]
 fn write_parity(
     w: Window,
     stream: u8,
@@ -167,16 +217,14 @@ fn write_parity(
         ≡ filled (wrote_parity stream w snbase (record { sequence = sequence; timestamp = timestamp; ssrc = ssrc }) (viewed store.entry records.now) out.old) }
 {
     let len = records.len();
-    let mut few = [Row::default(); 16];
+    let mut few = [Row::default(); face::FEW + 1];
     if let Some(m) = face::gather(records, w.k, &mut few) {
         return face::write_parity(
             w, stream, snbase, sequence, timestamp, ssrc, store, &mut few, m, len, out,
         );
     }
-    let mut many = [Row::default(); 129];
-    let m = gather_all(records, w.k, &mut many);
-    face::write_parity(
-        w, stream, snbase, sequence, timestamp, ssrc, store, &mut many, m, len, out,
+    write_parity_by_many(
+        w, stream, snbase, sequence, timestamp, ssrc, store, records, out,
     )
 }
 
@@ -195,7 +243,7 @@ pub extern "C" fn cgv_media(
     ensures { record { reply = result; store = stored media.new timestamps.new lengths.new marks.new parity.new records.new }
         ≡ replied (offered_media w datagram.now (stored media.old timestamps.old lengths.old marks.old parity.old records.old)) }
 {
-    let mut few = [Row::default(); 16];
+    let mut few = [Row::default(); face::FEW + 1];
     if let Some(m) = face::gather(records, w.k, &mut few) {
         return media_over(
             w, datagram, media, timestamps, lengths, marks, parity, records, &mut few, m,
@@ -316,7 +364,7 @@ pub extern "C" fn cgv_read(
         marks,
         parity,
     };
-    let mut few = [Row::default(); 16];
+    let mut few = [Row::default(); face::FEW + 1];
     if let Some(m) = face::gather(records, w.k, &mut few) {
         return face::read(w, number, store, &mut few, m, len, out);
     }

@@ -5,7 +5,7 @@ mod side;
 
 ghost use Rattle.std.specs.Prelude.{◌≤◌};
 
-use answer::{Counts, Refusal};
+use answer::{Answer, Counts, Refusal};
 use side::{Port, Side};
 use std::io;
 
@@ -101,6 +101,7 @@ fn print_answer(
     start: u16,
     a: Result<Counts, Refusal>,
 ) -> io::Result<()> {
+    let a = Answer::from(a);
     let name = if port == Port::Column {
         "column"
     } else {
@@ -178,6 +179,7 @@ fn count_equal(sender: &Side, to: &Side) -> usize {
 // How many packets of the matrix that begins with packet `from` are lost.
 fn count_lost(from: u8) -> usize
     requires { from ≤ 64 }
+    ensures { result ≤ 16 }
 {
     (from..from + 16).filter(|i| lost(*i)).count()
 }
@@ -199,7 +201,7 @@ fn move_on(rt: &impl Print, to: &mut Side, from: u8) -> io::Result<()>
     requires { from ≤ 64 }
 {
     let missing = count_lost(from);
-    let left = answer::count(to.advance());
+    let left = answer::count(Answer::from(to.advance()));
     let rebuilt = left.saturating_sub(16usize.saturating_sub(missing));
     let given_up = 16usize.saturating_sub(left);
     println!(rt;

@@ -1,6 +1,6 @@
 -- A call's outcome as a card gets it: document 01's number and counts in place of the answer.
 use Rattle.std.specs.Prelude.{List, ℕ}
-use Rattle.answer.specs.Number.{Answer}
+use Rattle.answer.specs.declared.Answer.{Answer}
 use Rattle.answer.specs.Number.{number_of, count_of, spoilt_of}
 use Rattle.window.specs.declared.Window.{Window}
 use Rattle.window.specs.Store.{Store}

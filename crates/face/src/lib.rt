@@ -12,7 +12,7 @@ ghost use Rattle.face.specs.Reply.{numbered, replied, filled};
 ghost use Rattle.calls.specs.Move.{moved};
 ghost use Rattle.face.specs.Done.{reached, Lent, Done, Given, Carries};
 
-use answer::{Counts, Refusal};
+use answer::{Answer, Counts, Refusal};
 use receiver::{Receiver, Step};
 use table::Row;
 use window::{Record, StoreView, Window};
@@ -33,6 +33,9 @@ pub struct Finished {
     pub reply: Reply,
     pub rows: usize,
 }
+
+// Most records of a small hand, which most calls can do with.
+pub const FEW: usize = 15;
 
 // How many records are looked through.
 pub fn reach(len: usize, k: usize) -> usize
@@ -56,10 +59,11 @@ pub fn gather(records: &[Record], k: usize, rows: &mut [Row]) -> Option<usize>
 fn by_number(answer: Result<Counts, Refusal>, window: Window) -> Reply
     ensures { result ≡ numbered (answer_of answer) window }
 {
+    let a = Answer::from(answer);
     Reply {
-        number: answer::number(answer) as u32,
-        count: answer::count(answer),
-        spoilt: answer::spoilt(answer),
+        number: answer::number(a) as u32,
+        count: answer::count(a),
+        spoilt: answer::spoilt(a),
         window,
     }
 }
@@ -126,7 +130,8 @@ pub fn media(
     ))
 }
 
-// A parity datagram is offered on the port of a stream.
+// A parity datagram is offered on the port of a stream. Inlined, so that a stream that is known is not asked for.
+#[inline(always)]
 pub fn parity(
     w: Window,
     stream: u8,
@@ -144,6 +149,17 @@ pub fn parity(
     ensures { Done (λ s. replied (offered_parity stream w datagram.now s)) len w.k m media.old timestamps.old lengths.old marks.old parity.old rows.old
         media.new timestamps.new lengths.new marks.new parity.new rows.new result }
 {
+    let receiver = Receiver { window: w };
+    if stream == rtp::COLUMN {
+        return finish(receiver.column(
+            datagram, media, timestamps, lengths, marks, parity, rows, m, len,
+        ));
+    }
+    if stream == rtp::ROW {
+        return finish(receiver.row(
+            datagram, media, timestamps, lengths, marks, parity, rows, m, len,
+        ));
+    }
     finish(receiver::offer_parity(
         w, stream, datagram, media, timestamps, lengths, marks, parity, rows, m, len,
     ))
@@ -167,7 +183,8 @@ pub fn read(
     by_number(r.answer, r.receiver.window)
 }
 
-// The parity packet of a group of a stream is written.
+// The parity packet of a group of a stream is written. Inlined, as above.
+#[inline(always)]
 pub fn write_parity(
     w: Window,
     stream: u8,
@@ -184,9 +201,12 @@ pub fn write_parity(
     requires { (m < length rows.old) × (stream ≤ 1) }
     ensures { Given (λ s o. filled (wrote_parity stream w snbase (record { sequence = sequence; timestamp = timestamp; ssrc = ssrc }) s o)) len w.k m store.entry rows.old out.old out.new result }
 {
-    let r = receiver::write_parity(
-        stream, w, snbase, sequence, timestamp, ssrc, store, rows, m, len, out,
-    );
+    let receiver = Receiver { window: w };
+    if stream == rtp::COLUMN {
+        let r = receiver.write_column(snbase, sequence, timestamp, ssrc, store, rows, m, len, out);
+        return by_number(r.answer, r.receiver.window);
+    }
+    let r = receiver.write_row(snbase, sequence, timestamp, ssrc, store, rows, m, len, out);
     by_number(r.answer, r.receiver.window)
 }
 

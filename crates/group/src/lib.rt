@@ -255,7 +255,7 @@ pub fn defines(
     if (r.timestamp != recovery.timestamp) | (r.length != recovery.length) {
         return false;
     }
-    &sum[..r.size] == recovery.payload
+    xor::same(&sum[..r.size], recovery.payload)
 }
 
 // ---- the one missing packet

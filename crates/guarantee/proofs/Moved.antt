@@ -5,7 +5,7 @@ use Rattle.std.proofs.Math.Path.{refl, ap, subst}
 use Rattle.std.proofs.Common.{sym, ◌∙◌, inl, inr, ⊎_elim, arith, pow_pos, eqb-true, ltb-false}
 use Rattle.std.proofs.Math.Bool.{cond}
 use Rattle.std.proofs.Math.Nat.{mod-lt}
-use Rattle.answer.specs.Number.{Done, Refused}
+use Rattle.answer.specs.declared.Answer.TheVariants.{Done, Refused}
 use Rattle.answer.specs.First.{first, first-none}
 use Rattle.sequence.specs.Lists.{up_to, count}
 use Rattle.sequence.proofs.Lists.{or_split}

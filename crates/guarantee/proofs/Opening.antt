@@ -3,7 +3,7 @@ use Rattle.std.specs.Prelude.{◌≡◌, refl, false, List, [], ◌∷◌, ◌++
 use Rattle.std.proofs.Common.{sym, ◌∙◌, true≢false, arith, length-append}
 use Rattle.std.proofs.lemmas.List.{length-replicate, get_or-replicate}
 use Rattle.std.proofs.Math.ListN.{get_or-append}
-use Rattle.answer.specs.Number.{Done, Refused}
+use Rattle.answer.specs.declared.Answer.TheVariants.{Done, Refused}
 use Rattle.answer.specs.First.{first, None, first-none}
 use Rattle.sequence.specs.Lists.{up_to}
 use Rattle.window.specs.declared.Window.{Window}

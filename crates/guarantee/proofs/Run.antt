@@ -5,7 +5,7 @@ use Rattle.std.proofs.Common.{sym, ap, ◌∙◌, subst, inl, inr, ⊎_elim, tru
 use Rattle.std.proofs.Math.Bool.{and-true}
 use mathlib.Core.List.Memᴰ
 use mathlib.Core.List.{List, [], ◌∷◌, ◌++◌, map, Memᴰ}
-use Rattle.answer.specs.Number.{Answer}
+use Rattle.answer.specs.declared.Answer.{Answer}
 use Rattle.answer.specs.Number.{number_of, spoilt_of}
 use Rattle.sequence.specs.Lists.{up_to}
 use Rattle.rtp.specs.Fec.{column, row, snbase}

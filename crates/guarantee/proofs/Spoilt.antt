@@ -2,8 +2,8 @@
 -- what the Code defines. What it gives for its one missing packet does not fit, so the packet stays missing, the parity is let go, and the
 -- answer counts it.
 use Rattle.std.specs.Prelude.{◌≡◌, refl, List, [], ◌∷◌, map, ℕ, replicate, set}
-use Rattle.answer.specs.Number.{Answer}
-use Rattle.answer.specs.Number.{Done}
+use Rattle.answer.specs.declared.Answer.{Answer}
+use Rattle.answer.specs.declared.Answer.TheVariants.{Done}
 use Rattle.answer.specs.First.{first}
 use Rattle.peel.specs.Rest.{rounds}
 use Rattle.rtp.specs.Fec.{column}

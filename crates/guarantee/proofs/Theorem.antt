@@ -3,7 +3,7 @@
 use Rattle.std.specs.Prelude.{◌≡◌, refl, ◌≢◌, ◌⊎◌, Bool, true, false, ◌&&◌, ℕ, ◌<◌, ◌≤◌, length, take, ltb}
 use Rattle.std.proofs.Common.{sym, ap, ◌∙◌, subst, inl, inr, ⊎_elim, true≢false, arith, eqb-true, lt-ltb, ltb-true}
 use mathlib.Core.List.{List, [], ◌∷◌, ◌++◌, map, Memᴰ}
-use Rattle.answer.specs.Number.{Answer}
+use Rattle.answer.specs.declared.Answer.{Answer}
 use Rattle.answer.specs.Number.{number_of, spoilt_of}
 use Rattle.sequence.proofs.Lists.{and_split as both}
 use Rattle.sequence.specs.Wrap.{number_at}

@@ -1,7 +1,7 @@
 -- Parity that contradicts its whole group (02, request 6), computed through the calls on the window of Night.antt: the column of positions 0, 4,
 -- 8 and 12, all of them present. The true one is accepted; one that differs in anything is refused with 18, and nothing is altered.
 use Rattle.std.specs.Prelude.{◌≡◌, refl, [], ◌∷◌, map, get_or, replicate}
-use Rattle.answer.specs.Number.{Done}
+use Rattle.answer.specs.declared.Answer.TheVariants.{Done}
 use Rattle.answer.specs.First.{first}
 use Rattle.peel.specs.Rest.{rounds}
 use Rattle.rtp.specs.Fec.{column}

@@ -3,7 +3,7 @@
 -- itself, whatever was found spoilt.
 use Rattle.std.specs.Prelude.{◌≡◌, refl, true, false, List, ℕ, ◌+◌, ◌^◌, ◌<◌, ◌≤◌, length}
 use Rattle.std.proofs.Common.{sym, ap, ◌∙◌, arith}
-use Rattle.answer.specs.Number.{Done}
+use Rattle.answer.specs.declared.Answer.TheVariants.{Done}
 use Rattle.answer.specs.First.{first}
 use Rattle.rtp.specs.Fec.{column, row}
 use Rattle.window.specs.declared.Window.{Window}

@@ -1,6 +1,6 @@
 -- Accepting a packet (calls' Accept.antt) and settling, as the theory's moves: what every accepted offer leaves behind.
 use Rattle.std.specs.Prelude.{◌≡◌, ◌⊎◌, [], ◌∷◌, ℕ, ◌+◌}
-use Rattle.answer.specs.Number.{Done}
+use Rattle.answer.specs.declared.Answer.TheVariants.{Done}
 use Rattle.window.specs.declared.Window.{Window}
 use Rattle.window.specs.Store.{Store}
 use Rattle.calls.specs.Content.{Recovery}

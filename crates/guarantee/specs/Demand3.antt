@@ -2,8 +2,8 @@
 -- alone. Theorem.antt proves it.
 use Rattle.std.specs.Prelude.{◌≡◌, ◌↔◌, ◌≢◌, ◌⊎◌, Bool, true, false, cond, ◌&&◌, ◌||◌, ℕ, ◌^◌, ◌<◌, ◌≤◌, length, get_or, eqb}
 use mathlib.Core.List.{List, [], ◌∷◌, ◌++◌, map, Memᴰ}
-use Rattle.answer.specs.Number.{Answer}
-use Rattle.answer.specs.Number.{Done}
+use Rattle.answer.specs.declared.Answer.{Answer}
+use Rattle.answer.specs.declared.Answer.TheVariants.{Done}
 use Rattle.answer.specs.Number.{number_of, spoilt_of}
 use Rattle.xor.specs.Xor.{padded}
 use Rattle.sequence.specs.Lists.{count}

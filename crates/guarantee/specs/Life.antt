@@ -2,8 +2,8 @@
 -- ever differs from the one sent. The statement alone; Lived.antt proves it.
 use Rattle.std.specs.Prelude.{◌≡◌, ◌≢◌, ◌⊎◌, Bool, false, true, ℕ, ◌+◌, ◌^◌, ◌<◌, ◌≤◌, ltb, length, get_or}
 use mathlib.Core.List.{List, [], ◌∷◌, ◌++◌, map, Memᴰ}
-use Rattle.answer.specs.Number.{Answer}
-use Rattle.answer.specs.Number.{Done, Refused}
+use Rattle.answer.specs.declared.Answer.{Answer}
+use Rattle.answer.specs.declared.Answer.TheVariants.{Done, Refused}
 use Rattle.answer.specs.Number.{number_of}
 use Rattle.sequence.specs.Lists.{up_to}
 use Rattle.sequence.specs.Wrap.{number_at}

@@ -1,6 +1,6 @@
 -- The window value of a refused opening (01, "Setting up a window"): every later call refuses it with 1, whatever else it is given.
 use Rattle.std.specs.Prelude.{◌≡◌, List, ℕ}
-use Rattle.answer.specs.Number.{Refused}
+use Rattle.answer.specs.declared.Answer.TheVariants.{Refused}
 use Rattle.window.specs.Store.{Store}
 use Rattle.calls.specs.Call.{Outcome, Written, no_window}
 

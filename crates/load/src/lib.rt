@@ -30,7 +30,7 @@ fn good_byte(next: u32, at: u32, size: u32, b: u8) -> bool
 {
     let b = b as u32;
     match at {
-        0 => 0 < b && b < 4,
+        0 => (0 < b) & (b < 4),
         1 => b == 0,
         2 | 3 => size * 256 + b <= 1500,
         _ => b == start_byte(next, at),
@@ -165,18 +165,18 @@ fn feed_all(s: Stage, piece: &[u8]) -> Stage
 fn head_good(at: u32, count: u32) -> bool
     ensures { result ≡ head_good at count }
 {
-    at < 12 && count <= 512
+    (at < 12) & (count <= 512)
 }
 
 // And in a line of the table.
 fn line_good(left: u32, next: u32, sum: u32, at: u32, size: u32) -> bool
     ensures { result ≡ line_good left next sum at size }
 {
-    left < 512
-        && next as usize + 1500 * left as usize + 1500 <= 772108
-        && sum as usize + 1500 * left as usize + 1500 <= 768000
-        && at < 8
-        && size <= 1500
+    (left < 512)
+        & (next as usize + 1500 * left as usize + 1500 <= 772108)
+        & (sum as usize + 1500 * left as usize + 1500 <= 768000)
+        & (at < 8)
+        & (size <= 1500)
 }
 
 // A stage in the header, of a card's numbers.
@@ -332,7 +332,10 @@ fn entry(front: &[u8], i: usize) -> Option<Line>
     ensures { unwrap_or result no_entry ≡ entry_read front.now i }
 {
     let h = header(front)?;
-    if h.count <= i || front.len() < 12 + 8 * (i + 1) {
+    if h.count <= i {
+        return None;
+    }
+    if front.len() < 12 + 8 * (i + 1) {
         return None;
     }
     let at = 12 + 8 * i;

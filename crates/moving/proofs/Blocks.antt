@@ -9,6 +9,10 @@ use Rattle.moving.specs.Down.{down}
 abbrev pub slid : {A : Type 0} (m at : ℕ) → List A → List A
 slid m at part = take at (drop m part) ++ drop at part
 
+-- the same as one copy
+pub slid-paste : {A : Type 0} (m at : ℕ) (part : List A) → slid m at part ≡ paste part 0 (drop m part) at
+slid-paste m at part = let e : at ≡ 0 + at = omega arith in ap (λ (k : ℕ). take at (drop m part) ++ drop k part) e
+
 module _ {A : Type 0} (m : ℕ) (part : List A) where
   module _ (at : ℕ) (h : at + m ≤ length part) where
     front_long : length (take at (drop m part)) ≡ at

@@ -3,7 +3,7 @@ use Rattle.std.proofs.Common.{◌≡◌, refl, sym, ap, ap₂, ◌∙◌, false,
 use Rattle.answer.specs.declared.Refusal.{Refusal}
 use Rattle.answer.specs.Refused.{refusal_number, fault_of}
 use Rattle.answer.proofs.Refused.{never_0}
-use Rattle.answer.specs.Number.{Done, Refused}
+use Rattle.answer.specs.declared.Answer.TheVariants.{Done, Refused}
 use Rattle.answer.specs.First.{first}
 use Rattle.xor.specs.Xor.{padded}
 use Rattle.window.specs.declared.Record.{Record}

@@ -1,7 +1,7 @@
 -- A move over a hand: what it says of every table that the hand was taken of.
 use Rattle.std.specs.Prelude.{◌≡◌, false, List, ℕ, ◌*◌, ◌≤◌, length, Result, Ok, Err}
 use Rattle.answer.specs.declared.Refusal.{Refusal}
-use Rattle.answer.specs.Number.{Done, Refused}
+use Rattle.answer.specs.declared.Answer.TheVariants.{Done, Refused}
 use Rattle.answer.specs.Refused.{refusal_number}
 use Rattle.answer.specs.First.{first}
 use Rattle.window.specs.declared.Record.{Record}

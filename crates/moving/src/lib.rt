@@ -1,7 +1,7 @@
 #![tactic(auto)]
 
 // Moving the window on: the packets that leave are written out, parity with a member among them is released, and the other
-// positions move down. Each byte is copied once, a block at a time.
+// positions move down, a block at a time.
 ghost use Rattle.std.specs.Prelude.{◌≡◌, true, cond, ◌||◌, List, ℕ, ◌+◌, ◌*◌, ◌-◌, ◌≤◌, ◌<◌, eqb, ltb, length, get_or, drop};
 ghost use Rattle.std.proofs.Math.Seq.{paste};
 ghost use Rattle.xor.specs.Xor.{padded};
@@ -25,13 +25,17 @@ use window::{Sizes, StoreView, Window};
 
 // ---- positions move down
 
-// The first n elements move down by m, with `zero` behind them: m at a time, since std's copy_within moves one at a time. The
+// Elements that move by less than this go one by one.
+const SMALL: usize = 16;
+
+// The elements from m to n move to the front: one by one, which is what std's copy_within does, where m is small, else m at a time. The
 // last ones are fewer, so the loop counts by how many there were.
-fn down<T: Copy>(part: &mut [T], zero: T, m: usize, n: usize)
-    requires { (m ≤ n) × (n ≤ length part.old) × T.is_infallible zero × ((y : T) → T.is_clone zero y → y ≡ zero) }
-    ensures { part.new ≡ down zero m n part.old }
+fn slide<T: Copy>(part: &mut [T], m: usize, n: usize)
+    requires { (m ≤ n) × (n ≤ length part.old) }
+    ensures { part.new ≡ paste part.old 0 (drop m part.old) (n - m) }
 {
-    if m == 0 {
+    if m < SMALL {
+        part.copy_within(m..n, 0);
         return;
     }
     let left = n - m;
@@ -42,7 +46,50 @@ fn down<T: Copy>(part: &mut [T], zero: T, m: usize, n: usize)
         front[at..at + size].copy_from_slice(&back[..size]);
         at += size;
     }
+}
+
+// The first n elements move down by m, with `zero` behind them.
+fn down<T: Copy>(part: &mut [T], zero: T, m: usize, n: usize)
+    requires { (m ≤ n) × (n ≤ length part.old) × T.is_infallible zero × ((y : T) → T.is_clone zero y → y ≡ zero) }
+    ensures { part.new ≡ down zero m n part.old }
+{
+    slide(part, m, n);
+    let left = n - m;
     part[left..n].fill(zero);
+}
+
+// Bytes that are moved at once.
+pub const BLOCK: usize = 4096;
+
+// The bytes from m to n move to the front, a block at a time through an array, of which the compiler makes one move of each block; m
+// at a time where m is no smaller.
+fn slide_bytes(part: &mut [u8], m: usize, n: usize)
+    requires { (m ≤ n) × (n ≤ length part.old) }
+    ensures { part.new ≡ paste part.old 0 (drop m part.old) (n - m) }
+{
+    if BLOCK <= m {
+        slide(part, m, n);
+        return;
+    }
+    let mut block = [0; BLOCK];
+    let left = n - m;
+    let mut at = 0;
+    while at < left {
+        let size = BLOCK.min(left - at);
+        block[..size].copy_from_slice(&part[at + m..at + m + size]);
+        part[at..at + size].copy_from_slice(&block[..size]);
+        at += size;
+    }
+}
+
+// The first n bytes move down by m, with zeros behind them.
+fn down_bytes(part: &mut [u8], m: usize, n: usize)
+    requires { (m ≤ n) × (n ≤ length part.old) }
+    ensures { part.new ≡ down 0 m n part.old }
+{
+    slide_bytes(part, m, n);
+    let left = n - m;
+    part[left..n].fill(0);
 }
 
 // All positions move down, and new ones are missing, all zeros.
@@ -60,10 +107,10 @@ fn shift(
 {
     let n = w.n;
     let p = w.p;
-    down(media, 0, by * p, n * p);
+    down_bytes(media, by * p, n * p);
     down(timestamps, 0, by, n);
     down(lengths, 0, by, n);
-    down(marks, 0, by, n);
+    down_bytes(marks, by, n);
 }
 
 // ---- packets leave

@@ -9,7 +9,7 @@ use lib.ListN.{length, set, take, drop, length-set, length-drop}
 use lib.Seq.{paste}
 use borrow.Author.Tests.{eqb-true, not-false}
 use Rattle.std.specs.Prelude.{Option, Some, None}
-use Rattle.answer.specs.Number.{Done}
+use Rattle.answer.specs.declared.Answer.TheVariants.{Done}
 use Rattle.sequence.specs.Lists.{head_or}
 use Rattle.rtp.specs.Rtp.{rtp_header_size, sequence_number, timestamp}
 use Rattle.rtp.specs.Fec.{parity_header_size, snbase, length_recovery, timestamp_recovery}

@@ -8,7 +8,7 @@ use lib.ListN.{length, set}
 use lib.Seq.{paste}
 use Rattle.std.specs.Prelude.{Option, Ok, Err}
 use Rattle.answer.specs.declared.Refusal.{Refusal}
-use Rattle.answer.specs.Number.{Done}
+use Rattle.answer.specs.declared.Answer.TheVariants.{Done}
 use Rattle.answer.specs.Refused.{refusal_number}
 use Rattle.answer.proofs.Refused.{never_0}
 use Rattle.answer.specs.First.{first}

@@ -2,7 +2,7 @@
 use Rattle.std.specs.Prelude.{◌≡◌, Bool, true, false, List, ℕ, ◌+◌, ◌*◌, ◌<◌, ◌≤◌, length, Option, Some, None, Result, Ok, Err}
 use Rattle.std.proofs.Math.Seq.{paste}
 use Rattle.answer.specs.declared.Refusal.{Refusal}
-use Rattle.answer.specs.Number.{Done}
+use Rattle.answer.specs.declared.Answer.TheVariants.{Done}
 use Rattle.answer.specs.Refused.{refusal_number}
 use Rattle.rtp.specs.Fec.{snbase}
 use Rattle.window.specs.declared.Record.{Record}

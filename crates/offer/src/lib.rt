@@ -126,7 +126,7 @@ fn check_media_place(
         return Err(Refusal::Differs);
     }
     let at = i * w.p;
-    if (timestamps[i] == rtp::timestamp(datagram)) & (&media[at..at + size] == payload) {
+    if (timestamps[i] == rtp::timestamp(datagram)) & xor::same(&media[at..at + size], payload) {
         return Err(Refusal::Repeated);
     }
     Err(Refusal::Differs)
@@ -207,7 +207,7 @@ fn row_same(w: Window, stream: u8, datagram: &[u8], parity: &[u8], rows: &[Row],
         return false;
     }
     let at = rows[i].slot as usize * w.p;
-    &parity[at..at + size] == payload
+    xor::same(&parity[at..at + size], payload)
 }
 
 // One of the rows holds the group of a parity datagram with the same recovery.
@@ -349,8 +349,8 @@ fn accept_held(w: Window, stream: u8, datagram: &[u8], parity: &mut [u8], rows: 
     ensures { Kept w stream datagram.now parity.old rows.now result parity.new }
 {
     let at = table::first_free(rows) * w.p;
-    let payload = &datagram[rtp::PARITY_HEADERS..];
-    xor::lay(&mut parity[at..at + w.p], payload);
+    let held = &datagram[rtp::PARITY_HEADERS..];
+    xor::lay(&mut parity[at..at + w.p], held);
     let window = engine::recounted(w, w.present, w.in_use + 1);
     Offered {
         counts: Counts {
@@ -365,7 +365,7 @@ fn accept_held(w: Window, stream: u8, datagram: &[u8], parity: &mut [u8], rows: 
             snbase: rtp::snbase(datagram),
             timestamp_recovery: rtp::timestamp_recovery(datagram),
             length_recovery: rtp::length_recovery(datagram),
-            payload_length: payload.len() as u16,
+            payload_length: held.len() as u16,
         }),
     }
 }

@@ -6,7 +6,7 @@ use Prim.Native.Nat.{ℕ, ◌*◌, ◌≤◌}
 use native.Mathlib.Omega.{arith}
 use lib.ListN.{length, replicate, length-replicate}
 use borrow.Author.Tests.{ne_eqb}
-use Rattle.answer.specs.Number.{Done, Refused}
+use Rattle.answer.specs.declared.Answer.TheVariants.{Done, Refused}
 use Rattle.answer.specs.First.{first, first_hit, first_past, first-end, first-none, first_stops, first_goes}
 use Rattle.window.specs.declared.Record.{Record}
 use Rattle.window.specs.declared.Sizes.{Sizes}

@@ -28,17 +28,17 @@ parts-append : (s l m : List ℕ) (at n : ℕ) (d : List ℕ) → xor_parts s (l
 parts-append s [] m at n d = refl
 parts-append s (a ∷ l) m at n d = parts-append s l m at n (xor_at d at (drop a s) n)
 
-module _ (media : List ℕ) (p : ℕ) (d : List ℕ) where
-  both : (l m : List ℕ) → xor_parts media (places p m) 0 p (xor_parts media (places p l) 0 p d) ≡ xor_parts media (places p (l ++ m)) 0 p d
-  both l m = sym (ap (λ (k : List ℕ). xor_parts media k 0 p d) (map-append (λ k. k * p) l m) ∙ parts-append media (places p l) (places p m) 0 p d)
+module _ (media : List ℕ) (at p : ℕ) (d : List ℕ) where
+  both : (l m : List ℕ) → xor_parts media (places p m) at p (xor_parts media (places p l) at p d) ≡ xor_parts media (places p (l ++ m)) at p d
+  both l m = sym (ap (λ (k : List ℕ). xor_parts media k at p d) (map-append (λ k. k * p) l m) ∙ parts-append media (places p l) (places p m) at p d)
 
   -- the first k rows, then those after them
-  pub rows_then : (rows : List ℕ) (k : ℕ) → xor_parts media (places p (drop k rows)) 0 p (xor_parts media (places p (take k rows)) 0 p d) ≡ xor_parts media (places p rows) 0 p d
-  rows_then rows k = both (take k rows) (drop k rows) ∙ ap (λ (l : List ℕ). xor_parts media (places p l) 0 p d) (take-append-drop k rows)
+  pub rows_then : (rows : List ℕ) (k : ℕ) → xor_parts media (places p (drop k rows)) at p (xor_parts media (places p (take k rows)) at p d) ≡ xor_parts media (places p rows) at p d
+  rows_then rows k = both (take k rows) (drop k rows) ∙ ap (λ (l : List ℕ). xor_parts media (places p l) at p d) (take-append-drop k rows)
 
   -- k rows more
-  pub rows_more : (rows : List ℕ) (i k j : ℕ) → i + k ≡ j → xor_parts media (places p (take k (drop i rows))) 0 p (xor_parts media (places p (take i rows)) 0 p d) ≡ xor_parts media (places p (take j rows)) 0 p d
-  rows_more rows i k j e = both (take i rows) (take k (drop i rows)) ∙ ap (λ (l : List ℕ). xor_parts media (places p l) 0 p d) (sym (take-add i k rows) ∙ ap (λ (n : ℕ). take n rows) e)
+  pub rows_more : (rows : List ℕ) (i k j : ℕ) → i + k ≡ j → xor_parts media (places p (take k (drop i rows))) at p (xor_parts media (places p (take i rows)) at p d) ≡ xor_parts media (places p (take j rows)) at p d
+  rows_more rows i k j e = both (take i rows) (take k (drop i rows)) ∙ ap (λ (l : List ℕ). xor_parts media (places p l) at p d) (sym (take-add i k rows) ∙ ap (λ (n : ℕ). take n rows) e)
 
 -- where a row begins
 pub place_at : (p : ℕ) (rows : List ℕ) (k : ℕ) → get_or (places p rows) k 0 ≡ get_or rows k 0 * p
@@ -81,4 +81,4 @@ pub after : (media d rows s q : List ℕ) (p n k : ℕ) → n ≡ p → s ≡ xo
     → q ≡ xor_parts media (places p rows) 0 p d
 after media d rows s q p n k e es eq =
     eq ∙ ap (λ (j : ℕ). xor_parts media (places j (take (length rows - k) (drop k rows))) 0 j s) e
-    ∙ rw (rest_is rows k, es) (rows_then media p d rows k)
+    ∙ rw (rest_is rows k, es) (rows_then media 0 p d rows k)

@@ -8,7 +8,7 @@ use lib.Dec.{ltb}
 use lib.ListN.{length, get_or, take, drop, length-drop}
 use lib.Seq.{paste, sets}
 use borrow.Author.Tests.{lt-ltb, le-ltb, eq-eqb, ne_eqb, not-false}
-use Rattle.answer.specs.Number.{Done, Refused}
+use Rattle.answer.specs.declared.Answer.TheVariants.{Done, Refused}
 use Rattle.answer.specs.First.{first, first_hit, first_past, first-end, first-none}
 use Rattle.xor.specs.Xor.{xor_payloads, padded}
 use Rattle.rtp.specs.Rtp.{rtp_header_size, media_type, parity_type, rtp_header}

@@ -66,10 +66,11 @@ fn counted(written: Result<usize, Refusal>) -> Result<Counts, Refusal>
 fn has_room(len: usize, m: usize) -> bool
     ensures { (result ≡ true → (m ≤ most_records) × (m < len)) × ((m ≤ most_records) × (m < len) → result ≡ true) }
 {
-    m <= window::MOST_RECORDS && m < len
+    (m <= window::MOST_RECORDS) & (m < len)
 }
 
-// A parity datagram is offered on the port of a stream.
+// A parity datagram is offered on the port of a stream. Never inlined: it stands once for both streams.
+#[inline(never)]
 pub fn offer_parity(
     w: Window,
     stream: u8,
@@ -103,7 +104,8 @@ pub fn offer_parity(
     handed(Ok(r.counts), r.window, n, true)
 }
 
-// The parity packet of a group of a stream is written to the front of `out`.
+// The parity packet of a group of a stream is written to the front of `out`. Never inlined, as above.
+#[inline(never)]
 pub fn write_parity(
     stream: u8,
     w: Window,

@@ -8,10 +8,10 @@ mod play;
 
 ghost use Rattle.std.specs.Prelude.{◌≡◌, ◌≤◌, IfOk};
 
-use answer::{Counts, Refusal};
+use answer::{Answer, Counts, Refusal};
 use capture::Header;
 use std::io;
-use std::io::Read;
+use std::io::{Cursor, Read, Write};
 use window::Window;
 
 // Why a file is not replayed.
@@ -84,12 +84,15 @@ fn replay(
     }
 }
 
-// The line of each offer: its answer, and how many packets it rebuilt.
+// The line of each offer: its answer, and how many packets it rebuilt. They go out in one write; a line has seven bytes at most.
 fn say_answers(rt: &impl Print, answers: &[Result<Counts, Refusal>]) -> io::Result<()> {
+    let mut text = Cursor::new([0; 3584]);
     for a in answers {
-        println!(rt; "{} {}", answer::number(*a), answer::count(*a))?;
+        let a = Answer::from(*a);
+        writeln!(text, "{} {}", answer::number(a), answer::count(a))?;
     }
-    Ok(())
+    let end = text.position() as usize;
+    rt.write_all(&text.get_ref()[..end.min(3584)])
 }
 
 // What became of a file.

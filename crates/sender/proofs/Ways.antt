@@ -1,7 +1,7 @@
 -- A packet's payload in the bytes of a slot, and a parity packet in an output; the ways through a sender's calls. Assumes nothing.
-use Rattle.std.proofs.Common.{Some, None, ◌≡◌, refl, sym, ap, ap₂, ◌∙◌, Bool, true, false, cond, List, ◌++◌, ℕ, ◌+◌, ◌*◌, ◌-◌, ◌/◌, ◌%◌, ◌≤◌, ◌<◌, max, div-add-mod', arith, eqb, bit_xor, length, get_or, take, drop, set, length-drop, length-take-le, drop_of_length-le, append-nil, zero-add, [], eq-eqb, ne_eqb, ltb-true, ltb-false, le-leb, take_all, take-take}
+use Rattle.std.proofs.Common.{Some, None, ◌≡◌, refl, sym, ap, ap₂, ◌∙◌, Bool, true, false, cond, not, ◌||◌, true≢false, List, ◌++◌, ℕ, ◌+◌, ◌*◌, ◌-◌, ◌/◌, ◌%◌, ◌≤◌, ◌<◌, max, div-add-mod', arith, eqb, bit_xor, length, get_or, take, drop, set, length-drop, length-take-le, drop_of_length-le, append-nil, zero-add, [], eq-eqb, ne_eqb, ltb-true, ltb-false, le-leb, take_all, take-take}
 use Rattle.std.proofs.Math.Option.{Option, none, some}
-use Rattle.std.proofs.lemmas.Bool.{lt-leb}
+use Rattle.std.proofs.lemmas.Bool.{lt-leb, eqb-true, not-true, not-false}
 use Rattle.std.proofs.Math.Seq.{paste, sets}
 use Rattle.std.proofs.lemmas.Slice.{put_mid-paste}
 use borrow.Rule.Slice.PartMut.{put_mid}
@@ -148,19 +148,18 @@ joining_fits s r u c e = rw e (column-slot s r u)
 
 -- the row that is due
 module _ (s : Sender) (o : Outer) (r : Room) (out : List ℕ) where
-  pub row-few : no_row row s.l ≡ true → unused out ≡ row_out s o r out
+  pub row-none : (few : Bool) → few ≡ no_row row s.l → (few || not (eqb (s.at % s.l + 1) s.l)) ≡ true → unused out ≡ row_out s o r out
   unfolding row_out row_due
-  row-few h = rw (lt-leb 4 s.l (ltb-true s.l 4 h))
+  row-none true e h = rw (lt-leb 4 s.l (ltb-true s.l 4 (sym e)))
+  row-none false e h = rw (le-leb 4 s.l (ltb-false s.l 4 (sym e)), not-true (eqb (s.at % s.l + 1) s.l) h)
 
-  pub row-none : no_row row s.l ≡ false → ¬ (s.at % s.l + 1 ≡ s.l) → unused out ≡ row_out s o r out
+  pub row-some : (few : Bool) → few ≡ no_row row s.l → (few || not (eqb (s.at % s.l + 1) s.l)) ≡ false → packet s o row (s.l - 1) (row_slot s.l) r out ≡ row_out s o r out
   unfolding row_out row_due
-  row-none h k = rw (le-leb 4 s.l (ltb-false s.l 4 h), ne_eqb (s.at % s.l + 1) s.l k)
-
-  pub row-some : no_row row s.l ≡ false → s.at % s.l + 1 ≡ s.l → packet s o row (s.l - 1) (row_slot s.l) r out ≡ row_out s o r out
-  unfolding row_out row_due
-  row-some h k =
-      let e : s.at - s.at / s.l * s.l ≡ s.l - 1 = omega (arith, div-add-mod' s.at s.l) in
-      rw (le-leb 4 s.l (ltb-false s.l 4 h), eq-eqb (s.at % s.l + 1) s.l k, e)
+  row-some true e h = absurd (true≢false h)
+  row-some false e h =
+      let d = not-false (eqb (s.at % s.l + 1) s.l) h in
+      let b : s.at - s.at / s.l * s.l ≡ s.l - 1 = omega (arith, div-add-mod' s.at s.l, eqb-true (s.at % s.l + 1) s.l d) in
+      rw (le-leb 4 s.l (ltb-false s.l 4 (sym e)), d, b)
 
 -- a packet in the sum of its row, and then in that of its column
 pub absorbed-both : (s : Sender) (g : List ℕ) (r one two : Room) (c : Joining) → c ≡ joining_at (arrangement_of s) s.l s.d s.at

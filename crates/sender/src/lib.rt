@@ -108,10 +108,10 @@ fn short_room(s: Sender, sums: Sums) -> bool
     ensures { result ≡ short_room s (room_of sums.entry) }
 {
     let n = 2 * s.l + 1;
-    sums.payloads.len() < n * s.p
-        || sums.timestamps.len() < n
-        || sums.lengths.len() < n
-        || sums.longest.len() < n
+    (sums.payloads.len() < n * s.p)
+        | (sums.timestamps.len() < n)
+        | (sums.lengths.len() < n)
+        | (sums.longest.len() < n)
 }
 
 // 4: a part of the room, or an output by its length, is shorter than the sender needs.
@@ -120,7 +120,7 @@ fn is_short(s: Sender, sums: Sums, row: usize, column: usize) -> bool
     ensures { result ≡ (short_room s (room_of sums.entry) || short_output s row || short_output s column) }
 {
     let need = rtp::PARITY_HEADERS + s.p;
-    short_room(s, sums) || row < need || column < need
+    short_room(s, sums) | (row < need) | (column < need)
 }
 
 // Each of the first n lengths is p at most.
@@ -136,7 +136,7 @@ fn is_astray(s: Sender, longest: &[u16]) -> bool
     requires { SetUp s × (slots s.l ≤ length longest.now) }
     ensures { result ≡ astray s longest.now }
 {
-    s.at >= schedule::MATRICES * (s.l * s.d) || !all_within(longest, 2 * s.l + 1, s.p as u16)
+    (s.at >= schedule::MATRICES * (s.l * s.d)) | !all_within(longest, 2 * s.l + 1, s.p as u16)
 }
 
 // Refusals 1 and 2, in this order.
@@ -244,7 +244,7 @@ fn send_row(s: Sender, o: Outer, sums: Sums, out: &mut [u8]) -> usize
     ensures { record { bytes = result; out = out.new } ≡ row_out s o (room_of sums.entry) out.old }
 {
     let l = s.l;
-    if rtp::no_row(rtp::ROW, l) || s.at % l + 1 != l {
+    if rtp::no_row(rtp::ROW, l) | (s.at % l + 1 != l) {
         return 0;
     }
     send(s, o, rtp::ROW, l - 1, 2 * l, sums, out)

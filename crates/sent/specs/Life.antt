@@ -1,7 +1,7 @@
 -- A sender's life: from an opening, any list of offers, each getting what the last one left (02, request 4).
 use Rattle.std.specs.Prelude.{◌≡◌, cond, List, [], ◌∷◌, ◌++◌, ℕ, eqb, get_or}
 use Rattle.std.proofs.Math.Option.{Option, none, some}
-use Rattle.answer.specs.Number.{Done}
+use Rattle.answer.specs.declared.Answer.TheVariants.{Done}
 use Rattle.answer.specs.First.{first}
 use Rattle.sequence.specs.Wrap.{number_at}
 use Rattle.rtp.specs.Fec.{column, row}

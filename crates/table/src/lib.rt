@@ -46,7 +46,7 @@ pub fn first_free(rows: &[Row]) -> usize
     ensures { FirstFree (length rows.now) rows.now result }
 {
     for i in 0..rows.len() {
-        if rows[i].slot as usize != i || rows[i].it.in_use != 1 {
+        if (rows[i].slot as usize != i) | (rows[i].it.in_use != 1) {
             return i;
         }
     }
@@ -68,7 +68,10 @@ fn has_row(rows: &[Row], m: usize, r: usize) -> bool
     requires { m ≤ length rows.now }
     ensures { (result ≡ true → (r < m) × (slot_at rows.now r ≡ r)) × (result ≡ false → r < m → slot_at rows.now r ≡ r → ⊥) }
 {
-    r < m && rows[r].slot as usize == r
+    if m <= r {
+        return false;
+    }
+    rows[r].slot as usize == r
 }
 
 // A record goes into the first free record of the table: into its row, or into a new one. The hand is the first m rows, and the answer how many it is then.

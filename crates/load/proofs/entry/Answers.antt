@@ -4,24 +4,21 @@ use Rattle.capture.specs.Content.{table_end}
 use Rattle.capture.proofs.Claims.{few-entries}
 use Rattle.load.proofs.Front.{entry_none, entry_past, entry_good, size-bytes, start-bytes}
 use Rattle.load.proofs.entry.Goals as goal
-use Rattle.load.proofs.entry.Goals.{then-h-i-via-then-h-i, then-h-i-via-else-h-i+then-front-i}
 
 pub returns-in_err-h : goal.returns-in_err-h
 returns-in_err-h c = rw c.from_residual.ensures (entry_none c.args.front.now c.args.i _ (ap (λ h. h.count) c.in_err-h.ensures) zero-le)
 
 pub returns-then-h-i : goal.returns-then-h-i
-returns-then-h-i c =
-    let e = ap (λ h. h.count) c.in_ok-h.ensures in
-    elim c.then-h-i.branch [
-      | then-h-i-via-then-h-i w ↦ entry_none c.args.front.now c.args.i _ e w.if-h-i.true
-      | then-h-i-via-else-h-i+then-front-i w ↦ entry_past c.args.front.now c.args.i _ e w.if-h-i.false w.if-front-i.true
-    ]
+returns-then-h-i c = entry_none c.args.front.now c.args.i _ (ap (λ h. h.count) c.in_ok-h.ensures) c.if-h-i.true
+
+pub returns-then-front-i : goal.returns-then-front-i
+returns-then-front-i c = entry_past c.args.front.now c.args.i _ (ap (λ h. h.count) c.in_ok-h.ensures) c.if-h-i.false c.if-front-i.true
 
 pub overflow_mul-i : goal.overflow_mul-i
 overflow_mul-i c = omega (arith, few-entries c.args.front.now, ap (λ h. h.count) c.in_ok-h.ensures, c.if-h-i.false)
 
-pub overflow_add-i-else-h-i : goal.overflow_add-i-else-h-i
-overflow_add-i-else-h-i c = omega (arith, few-entries c.args.front.now, ap (λ h. h.count) c.in_ok-h.ensures, c.if-h-i.false)
+pub overflow_add-i-2 : goal.overflow_add-i-2
+overflow_add-i-2 c = omega (arith, few-entries c.args.front.now, ap (λ h. h.count) c.in_ok-h.ensures, c.if-h-i.false)
 
 pub at32-requires : goal.at32-requires
 at32-requires c = omega (arith, few-entries c.args.front.now, ap (λ h. h.count) c.in_ok-h.ensures, c.if-h-i.false)

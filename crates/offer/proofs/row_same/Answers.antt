@@ -8,7 +8,7 @@ use lib.Dec.{eqb}
 use lib.ListN.{length, take, drop, length-drop}
 use borrow.Author.Tests.{eq-eqb, ne_eqb}
 use Rattle.xor.specs.Xor.{padded}
-use Rattle.xor.specs.Same.{same, same_from_eq}
+use Rattle.xor.specs.Same.{same}
 use Rattle.sequence.proofs.Lists.{and_split}
 use Rattle.rtp.specs.Fec.{parity_header_size, snbase}
 use Rattle.window.specs.declared.Record.{Record}
@@ -83,8 +83,8 @@ overflow_mul-at c =
     let low : (slot_at a.rows.now a.i) < a.w.k = (c.requires.1 (and_split (used (it_at a.rows.now a.i)) _ e).0) in
     omega (arith, row_ends (slot_at a.rows.now a.i) a.w.k a.w.p _ low c.requires.2, c.well_formed)
 
-pub slice_bounds-eq-end : goal.slice_bounds-eq-end
-slice_bounds-eq-end c =
+pub slice_bounds-same-end : goal.slice_bounds-same-end
+slice_bounds-same-end c =
     let a = c.args in
     let e : row_holds a.rows.now a.stream c.snbase.result a.i ≡ true = sym c.row_holds.ensures ∙ c.if-not-row_holds.false in
     let low : (slot_at a.rows.now a.i) < a.w.k = (c.requires.1 (and_split (used (it_at a.rows.now a.i)) _ e).0) in
@@ -97,7 +97,7 @@ returns c =
     let e : row_holds a.rows.now a.stream (snbase a.datagram.now) a.i ≡ true = ap (λ (b : ℕ). row_holds a.rows.now a.stream b a.i) (sym c.snbase.ensures) ∙ sym c.row_holds.ensures ∙ c.if-not-row_holds.false in
     let low : (slot_at a.rows.now a.i) < a.w.k = (c.requires.1 (and_split (used (it_at a.rows.now a.i)) _ e).0) in
     let size : (it_at a.rows.now a.i).payload_length ≡ length a.datagram.now - parity_header_size = sym c.wide.ensures.0 ∙ c.if-wide-size.false ∙ rest-long parity_header_size a.datagram.now in
-    let payloads : c.eq.result ≡ same (padded a.w.p (take (it_at a.rows.now a.i).payload_length (drop ((slot_at a.rows.now a.i) * a.w.p) a.parity.now))) (padded a.w.p (drop parity_header_size a.datagram.now)) =
-    c.eq.ensures ∙ same_from_eq eqb (λ p q. refl) (take (slot_at a.rows.now a.i * a.w.p + length (take (length a.datagram.now - parity_header_size) (drop parity_header_size a.datagram.now)) - slot_at a.rows.now a.i * a.w.p) (drop (slot_at a.rows.now a.i * a.w.p) a.parity.now)) (take (length a.datagram.now - parity_header_size) (drop parity_header_size a.datagram.now)) ∙ ap (λ (n : ℕ). same (take n (drop (slot_at a.rows.now a.i * a.w.p) a.parity.now)) (take (length a.datagram.now - parity_header_size) (drop parity_header_size a.datagram.now))) (rest-part parity_header_size (slot_at a.rows.now a.i * a.w.p) a.datagram.now) ∙ sym (rest-same parity_header_size a.w.p ((slot_at a.rows.now a.i) * a.w.p) a.parity.now a.datagram.now c.requires.3 (row_ends (slot_at a.rows.now a.i) a.w.k a.w.p _ low c.requires.2))
+    let payloads : c.same.result ≡ same (padded a.w.p (take (it_at a.rows.now a.i).payload_length (drop ((slot_at a.rows.now a.i) * a.w.p) a.parity.now))) (padded a.w.p (drop parity_header_size a.datagram.now)) =
+    c.same.ensures ∙ ap (λ (n : ℕ). same (take n (drop (slot_at a.rows.now a.i * a.w.p) a.parity.now)) (take (length a.datagram.now - parity_header_size) (drop parity_header_size a.datagram.now))) (rest-part parity_header_size (slot_at a.rows.now a.i * a.w.p) a.datagram.now) ∙ sym (rest-same parity_header_size a.w.p ((slot_at a.rows.now a.i) * a.w.p) a.parity.now a.datagram.now c.requires.3 (row_ends (slot_at a.rows.now a.i) a.w.k a.w.p _ low c.requires.2))
     ∙ ap (λ (n : ℕ). same (padded a.w.p (take n (drop ((slot_at a.rows.now a.i) * a.w.p) a.parity.now))) (padded a.w.p (drop parity_header_size a.datagram.now))) (sym size) in
     rw e (payloads ∙ all_same (kept a.w.p a.parity.now (it_at a.rows.now a.i) (slot_at a.rows.now a.i)) (recovery_of a.w.p a.datagram.now) (eq-eqb _ _ (c.if-v-timestamp_recovery.false ∙ c.timestamp_recovery.ensures)) (eq-eqb _ _ (c.if-v-length_recovery.false ∙ c.length_recovery.ensures)) (eq-eqb _ _ (size ∙ sym (length-drop parity_header_size a.datagram.now))))

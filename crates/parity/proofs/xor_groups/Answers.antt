@@ -28,4 +28,4 @@ loop-group-preserved g c =
     ∙ ap (λ (n : ℕ). xor_parts a.media.now c.places_of-places.result 0 n l.sum) l.auto.sum
     ∙ ap (λ (s : List ℕ). xor_parts a.media.now s 0 p l.sum) (c.places_of-places.ensures ∙ ap (λ (r : List ℕ). places p (take g.row.N r)) (rest_is a.rows.now k))
     ∙ ap (xor_parts a.media.now (places p (take g.row.N (drop k a.rows.now))) 0 p) l.invariant
-    ∙ rows_more a.media.now p a.sum.now a.rows.now k g.row.N ((l.group + 1) * g.row.N) next
+    ∙ rows_more a.media.now 0 p a.sum.now a.rows.now k g.row.N ((l.group + 1) * g.row.N) next

@@ -1,19 +1,13 @@
 -- `sender::send_row` meets its contract.
-use Rattle.std.proofs.Common.{sym, ◌∙◌}
+use Rattle.std.proofs.Common.{◌∙◌}
 use Rattle.sender.specs.Sums.{room_of}
-use Rattle.sender.proofs.Ways.{row-few, row-none, row-some}
+use Rattle.sender.proofs.Ways.{row-none, row-some}
 use Rattle.sender.proofs.send_row.Goals as goal
-use Rattle.sender.proofs.send_row.Goals.{then-no_row-via-then-no_row, then-no_row-via-else-no_row+then-s-l}
 
-pub returns-then-no_row : goal.returns-then-no_row
-returns-then-no_row c =
-    let a = c.args in
-    elim c.then-no_row.branch [
-      | then-no_row-via-then-no_row w ↦ row-few a.s a.o (room_of a.sums) a.out.now (sym c.no_row.ensures ∙ w.if-no_row.true)
-      | then-no_row-via-else-no_row+then-s-l w ↦ row-none a.s a.o (room_of a.sums) a.out.now (sym c.no_row.ensures ∙ w.if-no_row.false) w.if-s-l.true
-    ]
+pub returns-then-no_row-s : goal.returns-then-no_row-s
+returns-then-no_row-s c = let a = c.args in row-none a.s a.o (room_of a.sums) a.out.now c.no_row.result c.no_row.ensures c.if-no_row-s.true
 
 pub returns : goal.returns
 returns c =
     let a = c.args in
-    c.send.ensures ∙ row-some a.s a.o (room_of a.sums) a.out.now (sym c.no_row.ensures ∙ c.if-no_row.false) c.if-s-l.false
+    c.send.ensures ∙ row-some a.s a.o (room_of a.sums) a.out.now c.no_row.result c.no_row.ensures c.if-no_row-s.false

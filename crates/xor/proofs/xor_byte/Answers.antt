@@ -3,8 +3,8 @@ use Rattle.std.proofs.Common.{arith}
 use Rattle.xor.proofs.Turn.{byte-more}
 use Rattle.xor.proofs.xor_byte.Goals as goal
 
-pub loop-place-preserved : goal.loop-place-preserved
-loop-place-preserved g c =
-    let l = c.loop-place in
+pub loop-k-preserved : goal.loop-k-preserved
+loop-k-preserved g c =
+    let l = c.loop-k in
     let a = c.args in
-    rw l.invariant (byte-more a.src.now a.places l.place-index a.i a.byte (omega arith))
+    rw l.invariant (byte-more a.src.now a.places l.k a.i a.byte (omega arith))

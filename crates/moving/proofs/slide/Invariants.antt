@@ -1,6 +1,6 @@
 use Rattle.std.proofs.Common.{◌≡◌, ◌≤◌, ◌-◌, length}
 use Rattle.moving.proofs.Blocks.{slid}
-use Rattle.moving.proofs.down.Given as goal
+use Rattle.moving.proofs.slide.Given as goal
 
 abbrev pub invariant-loop-at : goal.invariant-loop-at
 invariant-loop-at g l = (l.at ≤ l.left) × (l.part ≡ slid l.m l.at l.initial.part) × (length l.part ≡ length l.initial.part)
