@@ -97,6 +97,7 @@ fn media_over(
 }
 
 // A parity datagram is offered on the port of a stream over a hand of m rows, and what it leaves of them goes back into the table.
+// Inlined, as what only hands a window on is.
 #[inline(always)]
 fn parity_over(
     w: Window,

@@ -130,7 +130,8 @@ pub fn media(
     ))
 }
 
-// A parity datagram is offered on the port of a stream. Inlined, so that a stream that is known is not asked for.
+// A parity datagram is offered on the port of a stream. Inlined, so that a stream that is known is not asked for. A number that is
+// none of the two is judged as the receiver has it.
 #[inline(always)]
 pub fn parity(
     w: Window,

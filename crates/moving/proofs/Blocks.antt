@@ -1,7 +1,8 @@
 -- A part whose first n elements move down by m, block by block. Assumes nothing.
-use Rattle.std.proofs.Common.{◌≡◌, sym, ap, ap₂, ◌∙◌, List, ◌++◌, ℕ, ◌+◌, ◌-◌, ◌≤◌, arith, length, take, drop, replicate, length-append, length-drop, length-take-le, take_all, take_at, drop_at, take-add, take-take, drop-drop, append_assoc}
+use Rattle.std.proofs.Common.{◌≡◌, sym, ap, ap₂, ◌∙◌, List, ◌++◌, ℕ, ◌+◌, ◌-◌, ◌≤◌, arith, length, take, drop, replicate, length-append, length-take, length-drop, length-take-le, take_all, take_at, drop_at, take-add, take-take, drop-drop, append_assoc}
 use borrow.Rule.Slice.PartMut.{put_mid}
 use Rattle.std.proofs.lemmas.List.{length-replicate, take-append-drop, drop-take}
+use Rattle.std.proofs.lemmas.Slice.{put_mid-paste}
 use Rattle.std.proofs.Math.Seq.{paste}
 use Rattle.moving.specs.Down.{down}
 
@@ -47,6 +48,18 @@ module _ {A : Type 0} (m : ℕ) (part : List A) where
       ap₂ (λ (a b : List A). a ++ b)
       (ap₂ (λ (a b : List A). a ++ b) (slid-front (n - m) fits) (take_all m (replicate m zero) (omega arith)))
       (rest (n - m) fits m ∙ ap (λ (k : ℕ). drop k part) all)
+
+-- a part that was slid and then filled from there up to n has moved down
+pub filled : {A : Type 0} (m n : ℕ) (part slid-part ys : List A) (zero : A) → m ≤ n → n ≤ length part → slid-part ≡ paste part 0 (drop m part) (n - m)
+    → ys ≡ replicate (length (take (n - (n - m)) (drop (n - m) slid-part))) zero → put_mid (n - m) (n - (n - m)) slid-part ys ≡ down zero m n part
+filled m n part s ys zero l h e f =
+    let left : ℕ = n - m in
+    let p = e ∙ sym (slid-paste m left part) in
+    let size = ap length p ∙ slid-long m part left (omega arith) in
+    let all : n - left ≡ m = omega arith in
+    let long : length (take (n - left) (drop left s)) ≡ m = simp (length-take, length-drop) (omega (arith, size)) in
+    put_mid-paste left (n - left) s ys (replicate m zero) m (f ∙ ap (λ (k : ℕ). replicate k zero) long) (sym all) (sym (length-replicate m zero))
+    ∙ ap (λ (q : List _). paste q left (replicate m zero) m) p ∙ slid-end m part zero n l h
 
 -- a part of the front that was overwritten with a part of the back, and the two joined again
 pub joined : {A : Type 0} (p ys : List A) (at size m k : ℕ) → k ≡ size → size ≤ m → ys ≡ take size (drop (at + m) p) → put_mid at k (take (at + m) p) ys ++ drop (at + m) p ≡ paste p at (drop (at + m) p) size
